@@ -25,9 +25,9 @@ whole_lines (b ∷ rest) =
 abbrev pub EndsWithLine : Text → Type 0
 EndsWithLine text = (front : Text) × (text ≡ front ++ 0x0A ∷ [])
 
--- A beginning of an input is enough for its first `most` records if it has more line feeds than `most`, and more
--- records. Below the lines that are left out it ends with a line feed, and outside quotes if quotes count. Its text
--- shows the field delimiter. No beginning in UTF-16 is enough.
+-- A beginning of an input is enough for its first `most` records if it has more line feeds than
+-- `most`, and more records. Below the lines that are left out it ends with a line feed, and outside
+-- quotes if quotes count. Its text shows the field delimiter. No beginning in UTF-16 is enough.
 pub record IsEnough (options : InputOptions) (most : ℕ) (beginning : Text) (records : List
     (List Text)) : Type 0 where
   pub no_utf16 : encoding_of options.encoding beginning ≢ Utf16
@@ -39,15 +39,16 @@ pub record IsEnough (options : InputOptions) (most : ℕ) (beginning : Text) (re
   pub are_records : AreRecordsIn options text records
   pub more : most < length records
 
--- the complete lines of `read` are a beginning that is enough, and `first` are its first `most` records
+-- the complete lines of `read` are a beginning that is enough, and `first` are its first `most`
+-- records
 pub record AreFirstByBeginning (options : InputOptions) (most : ℕ) (read : Text) (first : List
     (List Text)) : Type 0 where
   pub records : List (List Text)
   pub is_enough : IsEnough options most (whole_lines read) records
   pub are_first : first ≡ take most records
 
--- `found` has the first records of these bytes, the number of records in them, and the records with more fields than
--- the first one
+-- `found` has the first records of these bytes, the number of records in them, and the records with
+-- more fields than the first one
 pub record IsFoundInBeginning (options : InputOptions) (most : ℕ) (read : Text)
     (found : FirstRecords) : Type 0 where
   pub are_first : AreFirstByBeginning options most read found.records

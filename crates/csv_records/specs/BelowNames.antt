@@ -1,5 +1,5 @@
--- Lines whose fields are below the names of a first line. Here a line is a list of its characters, and a place is a
--- position in this list, counted from 0.
+-- Lines whose fields are below the names of a first line. Here a line is a list of its characters,
+-- and a place is a position in this list, counted from 0.
 -- Source: this library's own.
 use Rattle.std.specs.Prelude.{ℕ, ◌==◌, ◌&&◌, ◌||◌, not, nat_le, nat_lt, Bool, List, [], ◌∷◌, ◌++◌, Option, Some, None, chars, codes, encode_utf8, flat_map, length, slice_index, take, if◌then◌else◌}
 use Rattle.std.specs.List.{filter, list_all, list_any, range_with_len, suffix_len}
@@ -26,8 +26,8 @@ starts_of line = filter (begins_name line) (places line)
 abbrev pub is_start : List ℕ → ℕ → Bool
 is_start starts at = list_any (λ start. start == at) starts
 
--- true if a line fits the starts of names at this place. Two spaces or more precede each start. At any other place
--- nothing begins after two spaces or more.
+-- true if a line fits the starts of names at this place. Two spaces or more precede each start. At
+-- any other place nothing begins after two spaces or more.
 abbrev pub fits_at : List ℕ → List ℕ → ℕ → Bool
 fits_at starts line at =
     if is_start starts at

@@ -14,8 +14,8 @@ pieces keeps_sequences cs =
     then parts cs
     else map (λ c. record { is_sequence = false; bytes = c ∷ [] }) cs
 
--- true if a character turns the direction of the text after it: it begins or ends an embedding, an override or an
--- isolate
+-- true if a character turns the direction of the text after it: it begins or ends an embedding, an
+-- override or an isolate
 abbrev pub turns_direction : ℕ → Bool
 turns_direction c = is_in_range 0x202A 0x202E c || is_in_range 0x2066 0x2069 c
 
@@ -51,8 +51,8 @@ blanks_at column =
 abbrev pub blanks_after : Text → Text
 blanks_after seen = blanks_at (measure seen % tab_width)
 
--- the state while a field is cleaned: the text written so far, the visible part of its last line after the last tab
--- stop that a TAB reached, and true if the last character was a carriage return
+-- the state while a field is cleaned: the text written so far, the visible part of its last line
+-- after the last tab stop that a TAB reached, and true if the last character was a carriage return
 pub record CleanedText : Type 0 where
   pub text : Text
   pub seen : Text
@@ -61,8 +61,8 @@ pub record CleanedText : Type 0 where
 abbrev pub start : CleanedText
 start = record { text = []; seen = []; after_return = false }
 
--- the state after one more character. A line break is written once for a carriage return with a line feed. A TAB
--- becomes spaces. Any other character is written as it is drawn.
+-- the state after one more character. A line break is written once for a carriage return with a
+-- line feed. A TAB becomes spaces. Any other character is written as it is drawn.
 abbrev pub after_character : CleanedText → ℕ → CleanedText
 after_character s c =
     if (c == 0x0A) && s.after_return then record s { after_return = false }
@@ -101,8 +101,8 @@ visible_of keeps_sequences text = if keeps_sequences then visible_text text else
 abbrev pub is_harmful : ℕ → Bool
 is_harmful c = is_replaced c && not (c == 0x0A)
 
--- the only control characters visible in a cleaned field are line feeds, and no visible character turns the direction
--- of text
+-- the only control characters visible in a cleaned field are line feeds, and no visible character
+-- turns the direction of text
 abbrev pub HoldsNoControls : Bool → Text → Type 0
 HoldsNoControls keeps_sequences field =
     IsUtf8 field

@@ -39,7 +39,8 @@ abbrev pub count_behind : (ReaderState → ℕ → Option (ℕ × Text)) → ℕ
 count_behind more count rest None = Some (count, rest)
 count_behind more count rest (Some next) = more next.0 (count + (if next.1 then 1 else 0))
 
--- the number of fields of the record at hand, of which `count` have begun, and the text after the record
+-- the number of fields of the record at hand, of which `count` have begun, and the text after the
+-- record
 unfoldable pub count_from : Config → ReaderState → ℕ → Text → Option (ℕ × Text)
 count_from config state count [] = if csv.ends_at_end state then Some (count, []) else None
 count_from config state count (b ∷ rest) =

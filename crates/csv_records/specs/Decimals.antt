@@ -37,8 +37,8 @@ may_be_whole digits = has_groups digits && not (begins (λ b. b == 0x30) digits)
 abbrev pub decides : DecimalMark → Text → Bool
 decides mark digits = is_fraction (halves (byte_of mark) digits) && not (may_be_whole digits)
 
--- true if digits lack the mark, or have a fraction after it. With a point, `1,234` and `1.5` are read, and `1.234.567`
--- isn't.
+-- true if digits lack the mark, or have a fraction after it. With a point, `1,234` and `1.5` are
+-- read, and `1.234.567` isn't.
 abbrev pub is_read : Option (Text × Text) → Bool
 is_read None = true
 is_read (Some parts) = is_fraction (Some parts)
@@ -96,7 +96,8 @@ marks_of fields =
       comma = use_of Comma fields;
     }
 
--- true if some field decides for this mark, all fields are read with it, and no field decides for the other mark
+-- true if some field decides for this mark, all fields are read with it, and no field decides for
+-- the other mark
 abbrev pub has_mark : MarkUse → MarkUse → Bool
 has_mark this other = (this.is_decided && this.is_read) && not other.is_decided
 

@@ -65,7 +65,8 @@ agreement_by has_quotes text delimiter =
 abbrev pub tried_delimiters : List ℕ
 tried_delimiters = 0x09 ∷ 0x3B ∷ 0x2C ∷ 0x7C ∷ []
 
--- the first of the delimiters with which most records agree, or a comma if no records agree with any
+-- the first of the delimiters with which most records agree, or a comma if no records agree with
+-- any
 abbrev pub best_delimiter : (ℕ → ℕ) → List ℕ → ℕ
 best_delimiter agree delimiters =
     let most = greatest (map agree delimiters) in
@@ -75,8 +76,8 @@ best_delimiter agree delimiters =
 abbrev pub found_delimiter : Bool → Text → ℕ
 found_delimiter has_quotes text = best_delimiter (agreement_by has_quotes text) tried_delimiters
 
--- With this delimiter a text has more records than are compared. The compared records are then complete, however the
--- text goes on.
+-- With this delimiter a text has more records than are compared. The compared records are then
+-- complete, however the text goes on.
 abbrev pub has_first_records : Bool → Text → ℕ → Bool
 has_first_records has_quotes text delimiter =
     let wanted = first_looked_at + 1 in
@@ -99,9 +100,9 @@ IsAsciiUnlessAsked Auto delimiter = delimiter < 128
 IsAsciiUnlessAsked NamedOrTab delimiter = delimiter < 128
 IsAsciiUnlessAsked Spaces delimiter = delimiter < 128
 
--- A text shows its delimiter, however it goes on, in one of three cases: the delimiter is a given byte other than a
--- line feed, or the first line names it, or each tried delimiter gives the text more records than are compared. If
--- spaces are the delimiter, no beginning is enough.
+-- A text shows its delimiter, however it goes on, in one of three cases: the delimiter is a given
+-- byte other than a line feed, or the first line names it, or each tried delimiter gives the text
+-- more records than are compared. If spaces are the delimiter, no beginning is enough.
 abbrev pub shows_delimiter : Delimiter → Bool → Text → Bool
 shows_delimiter (Byte b) has_quotes text = not (b == 0x0A)
 shows_delimiter Auto has_quotes text =

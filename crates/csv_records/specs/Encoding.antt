@@ -72,8 +72,8 @@ units order (a ∷ b ∷ rest) = unit order a b ∷ units order rest
 abbrev pub odd_byte : Text → List (Option ℕ)
 odd_byte bytes = if length bytes % 2 == 0 then [] else None ∷ []
 
--- the characters below the first `skip` lines of these bytes, with `None` for each surrogate without a partner and for
--- an odd byte. Line ends are units, as they are bytes in other encodings.
+-- the characters below the first `skip` lines of these bytes, with `None` for each surrogate
+-- without a partner and for an odd byte. Line ends are units, as they are bytes in other encodings.
 abbrev pub characters_in : ByteOrder → ℕ → Text → List (Option ℕ)
 characters_in order skip bytes =
     utf16_chars (below_lines skip (units order bytes)) ++ odd_byte bytes
@@ -104,7 +104,8 @@ module _ (read : List (Option ℕ)) where
 
 -- ---- the text of an input
 
--- `text` is the text of an input in an encoding, below its first `skip` lines. These lines may be in another encoding.
+-- `text` is the text of an input in an encoding, below its first `skip` lines. These lines may be
+-- in another encoding.
 abbrev pub IsDecoded : Encoding → ℕ → Text → Text → Type 0
 IsDecoded Utf8 skip input text =
     IsUtf8 (below_lines skip input) × (text ≡ below_lines skip input)

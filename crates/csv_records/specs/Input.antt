@@ -30,8 +30,8 @@ line_breaks_after after_return (b ∷ bs) =
 abbrev pub line_breaks : Text → ℕ
 line_breaks text = line_breaks_after false text
 
--- the number of the line in which a text ends, below `above` other lines. Lines are counted from 1, and up to the
--- greatest `u64`.
+-- the number of the line in which a text ends, below `above` other lines. Lines are counted from 1,
+-- and up to the greatest `u64`.
 abbrev pub line_number : ℕ → Text → ℕ
 line_number above text = min (above + (line_breaks text + 1)) (2 ^ 64 - 1)
 
@@ -50,8 +50,8 @@ is_stray_control b =
 abbrev pub is_like_cp1252 : Text → Bool
 is_like_cp1252 bytes = list_all (λ b. not (is_stray_control b || is_open_in_cp1252 b)) bytes
 
--- Bytes below `above` lines aren't UTF-8, and the first wrong byte is in this line. `may_be` is true if they can be
--- Windows-1252.
+-- Bytes below `above` lines aren't UTF-8, and the first wrong byte is in this line. `may_be` is
+-- true if they can be Windows-1252.
 pub record IsFirstUnread (above : ℕ) (bytes : Text) (line : ℕ) (may_be : Bool) : Type 0 where
   pub no_text : ¬ (IsUtf8 bytes)
   pub numbered : line ≡ line_number above (take (utf8_valid_len bytes) bytes)
@@ -64,8 +64,8 @@ IsTextRefusal above bytes _ = ⊥
 
 -- ---- records
 
--- Records are read as csv reads them by default, but with this delimiter. Without quotes, a quote is an ordinary
--- character.
+-- Records are read as csv reads them by default, but with this delimiter. Without quotes, a quote
+-- is an ordinary character.
 abbrev pub config_for : ℕ → Bool → Config
 config_for delimiter has_quotes =
     record default_config { delimiter = delimiter; quoting = has_quotes }

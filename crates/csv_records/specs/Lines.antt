@@ -11,7 +11,8 @@ ends_line b = (b == 0x0A) || (b == 0x0D)
 abbrev pub line_len : Text → ℕ
 line_len text = position_or_len ends_line text
 
--- the number of bytes of a line end at the front: a carriage return with a line feed is one line end
+-- the number of bytes of a line end at the front: a carriage return with a line feed is one line
+-- end
 abbrev pub end_len : Text → ℕ
 end_len [] = 0
 end_len (a ∷ []) = if ends_line a then 1 else 0

@@ -32,8 +32,8 @@ abbrev pub skip_records : Config → ℕ → Text → Text
 skip_records config zero text = skip_newlines text
 skip_records config (suc before) text = skip_records config before (skip_record config text)
 
--- the number of the line in which a record begins that has `before` records above it. The lines that are left out are
--- counted too.
+-- the number of the line in which a record begins that has `before` records above it. The lines
+-- that are left out are counted too.
 abbrev pub line_of_record : InputOptions → Text → ℕ → ℕ
 line_of_record options text before =
     let config = config_for (parted options text).0 (reads_quotes options) in
@@ -50,8 +50,8 @@ field_count records at = length (unwrap_or (slice_get records at) [])
 abbrev pub is_longer : List (List Text) → List Text → Bool
 is_longer records fields = nat_lt (field_count records 0) (length fields)
 
--- a report of these records: the line and the fields of the first of them, the number of the others, and true if the
--- others are all that follow
+-- a report of these records: the line and the fields of the first of them, the number of the
+-- others, and true if the others are all that follow
 abbrev pub longer_at : (ℕ → ℕ) → List (List Text) → ℕ → LongRecords
 longer_at line_of records at =
     record {

@@ -21,7 +21,8 @@ begins_with front bytes = bytes_eq (take (length front) bytes) front
 abbrev pub begins_with_word : Text → Text → Bool
 begins_with_word word bytes = is_word word (take (length word) bytes)
 
--- the kind of file that begins as an input does. Files of bzip2 are recognised if their blocks have the usual size.
+-- the kind of file that begins as an input does. Files of bzip2 are recognised if their blocks have
+-- the usual size.
 abbrev pub not_text_by_front : Text → Option NotText
 not_text_by_front input =
     if begins_with (0x1F ∷ 0x8B ∷ []) input then Some Gzip
@@ -32,8 +33,8 @@ not_text_by_front input =
     else if begins_with (codes "%PDF-") input then Some Pdf
     else None
 
--- true if every second of the first four bytes is NUL and the others aren't, as in UTF-16 if two characters are below
--- U+0100
+-- true if every second of the first four bytes is NUL and the others aren't, as in UTF-16 if two
+-- characters are below U+0100
 abbrev pub is_like_utf16 : Text → Bool
 is_like_utf16 bytes =
     let nuls = map (λ b. if b == 0 then 1 else 0) (take 4 bytes) in
@@ -84,7 +85,8 @@ abbrev pub not_text_in : ℕ → Text → Option NotText
 not_text_in skip input =
     option_or (not_text_by_front input) (not_text_below skip (below_lines skip input))
 
--- the kind of an input that isn't text. No sign counts if an encoding is set, or a byte-order mark shows UTF-16.
+-- the kind of an input that isn't text. No sign counts if an encoding is set, or a byte-order mark
+-- shows UTF-16.
 abbrev pub not_text_for : Option Encoding → ℕ → Text → Option NotText
 not_text_for (Some encoding) skip input = None
 not_text_for None skip input =

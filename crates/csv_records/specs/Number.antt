@@ -84,7 +84,8 @@ halves mark text =
 abbrev pub is_digits : Text → Bool
 is_digits text = nat_lt 0 (length text) && list_all is_ascii_digit text
 
--- true if a group may have this number of digits: one to three for the first group, three for each other
+-- true if a group may have this number of digits: one to three for the first group, three for each
+-- other
 abbrev pub is_group_len : Bool → ℕ → Bool
 is_group_len is_first count = if is_first then nat_lt 0 count && nat_lt count 4 else count == 3
 
@@ -256,15 +257,16 @@ back_of text = drop (length (figure_of text)) (from_other is_outer text)
 abbrev pub is_end : Text → Bool
 is_end back = (length back == 0) || is_unit (behind is_blank back)
 
--- true for texts that may surround a number without sign: a currency before it, or a unit after it, or nothing
+-- true for texts that may surround a number without sign: a currency before it, or a unit after it,
+-- or nothing
 abbrev pub is_amount : Text → Text → Bool
 is_amount front back =
     if length front == 0
     then is_end back
     else (length back == 0) && is_money (before is_blank front)
 
--- true for texts around a figure whose sign isn't at the front. A minus may directly follow the figure, as in
--- `1.250,00-`, or a sign may follow the currency.
+-- true for texts around a figure whose sign isn't at the front. A minus may directly follow the
+-- figure, as in `1.250,00-`, or a sign may follow the currency.
 abbrev pub is_signed_later : Text → Text → Bool
 is_signed_later front back =
     if begins (λ c. c == 0x2D) (chars back)

@@ -11,8 +11,8 @@ use Rattle.csv_records.specs.Quotes.{is_in_quoted_field, state_after}
 abbrev pub ends_field : ℕ → ℕ → Bool
 ends_field delimiter b = (b == delimiter) || ends_with term.CRLF b
 
--- true if a quote outside quotes opens a field at this place: it is at the start of the text, or after a byte that ends
--- a field
+-- true if a quote outside quotes opens a field at this place: it is at the start of the text, or
+-- after a byte that ends a field
 abbrev pub is_opening : ℕ → Text → ℕ → Bool
 is_opening delimiter text zero = true
 is_opening delimiter text (suc before) = ends_field delimiter (slice_index text before)

@@ -23,7 +23,8 @@ pub record IsDecodedBy (options : InputOptions) (input text : Text) : Type 0 whe
   pub is_decoded : IsDecoded (encoding_of options.encoding input) options.skip input text
   pub is_text : not_text_for options.encoding options.skip input ≡ None
 
--- the error for an input without a text: it is recognised as something else, or it isn't in its encoding
+-- the error for an input without a text: it is recognised as something else, or it isn't in its
+-- encoding
 abbrev pub IsWithoutText : InputOptions → Text → DecodeError → Type 0
 IsWithoutText options input e =
     MatchOption (not_text_for options.encoding options.skip input)
@@ -47,7 +48,8 @@ counts_quotes Spaces has_quotes = false
 abbrev pub reads_quotes : InputOptions → Bool
 reads_quotes options = counts_quotes options.delimiter options.has_quotes
 
--- the byte between the fields of a text, and the part with its records: without a line that names the byte
+-- the byte between the fields of a text, and the part with its records: without a line that names
+-- the byte
 abbrev pub parted : InputOptions → Text → ℕ × Text
 parted options text =
     delimited options.delimiter (reads_quotes options) (read_text options.delimiter text)
@@ -60,7 +62,8 @@ pub record AreRecordsIn (options : InputOptions) (text : Text) (records : List
   pub is_closed : reads_quotes options ≡ true
       → state_after (parted options text).0 (strip_bom (parted options text).1) ≢ st.InQuoted
 
--- a quote that opens a field in this line is never closed; the lines that are left out are counted too
+-- a quote that opens a field in this line is never closed; the lines that are left out are counted
+-- too
 pub record HasUnclosedQuote (options : InputOptions) (text : Text) (line : ℕ) : Type 0 where
   pub has_quotes : reads_quotes options ≡ true
   pub before : Text

@@ -10,7 +10,8 @@ use Rattle.csv_records.specs.BelowNames.{columns_text, name_starts}
 abbrev pub is_gap : ℕ → Bool
 is_gap b = (b == 0x20) || (b == 0x09)
 
--- the first field of a line; a line without the gap at its front; and the text after the first field and its gap
+-- the first field of a line; a line without the gap at its front; and the text after the first
+-- field and its gap
 abbrev pub first_field : Text → Text
 first_field line = take (position_or_len is_gap line) line
 
@@ -64,8 +65,8 @@ abbrev pub is_indented : Text → Bool
 is_indented [] = false
 is_indented (b ∷ rest) = is_gap b
 
--- true if the first column has no name, as in the output of `free`: only the first line begins with a gap, and the
--- fullest line below it has one field more
+-- true if the first column has no name, as in the output of `free`: only the first line begins with
+-- a gap, and the fullest line below it has one field more
 abbrev pub lacks_name : List Text → Bool
 lacks_name [] = false
 lacks_name (first ∷ others) =
@@ -76,7 +77,8 @@ lacks_name (first ∷ others) =
 abbrev pub name_gap : List Text → Text
 name_gap lines = if lacks_name lines then 0x09 ∷ [] else []
 
--- the number of gaps that separate columns: that of the first line, or of the fullest line below it if that is smaller
+-- the number of gaps that separate columns: that of the first line, or of the fullest line below it
+-- if that is smaller
 abbrev pub column_gaps : List Text → ℕ
 column_gaps [] = 0
 column_gaps (first ∷ []) = line_gaps first
@@ -103,7 +105,8 @@ gaps_text lines =
     name_gap lines
     ++ flat_map (λ line. tabbed_line (column_gaps lines) (trimmed_line line) ++ 0x0A ∷ []) lines
 
--- a text with TABs between its fields: at the starts of names if all lines fit these, and else in place of gaps
+-- a text with TABs between its fields: at the starts of names if all lines fit these, and else in
+-- place of gaps
 abbrev pub tabbed_by : Option (List ℕ) → List Text → Text
 tabbed_by (Some starts) lines = columns_text starts lines
 tabbed_by None lines = gaps_text lines

@@ -23,13 +23,13 @@ marked text = encode_utf8_all (escaped (chars text))
 abbrev pub is_blank : Text → Bool
 is_blank text = list_all (λ b. (b == 0x20) || (b == 0x0A)) text
 
--- a text, or the empty text if it is blank. Wrapping drops spaces, so that a record of blank texts alone would have no
--- line in narrow columns.
+-- a text, or the empty text if it is blank. Wrapping drops spaces, so that a record of blank texts
+-- alone would have no line in narrow columns.
 abbrev pub unless_blank : Text → Text
 unless_blank text = if is_blank text then [] else text
 
--- the text of a field's cell: cleaned, and empty if that is blank. For Markdown no sequence is kept, and the field is
--- escaped.
+-- the text of a field's cell: cleaned, and empty if that is blank. For Markdown no sequence is
+-- kept, and the field is escaped.
 abbrev pub field_text : Look → Text → Text
 field_text look field =
     if look.is_markdown
@@ -134,7 +134,8 @@ row_for look is_aligned is_numbered columns row =
     cut look
     (cells_for look false (shown_in look is_aligned is_numbered (columns_within row.1 columns) row))
 
--- the row of one field of an expanded record: the name of its column, as bold as a header, and the field
+-- the row of one field of an expanded record: the name of its column, as bold as a header, and the
+-- field
 abbrev pub pair_for : Look → Text → Text → RowValue
 pair_for look name field =
     cut look (plain_row (with_weight look.has_bold_header (cell_for look None name)

@@ -16,8 +16,8 @@ use Rattle.csv_tables.specs.declared.summary.ColumnSummary.{ColumnSummary}
 use Rattle.csv_records.specs.Cleaning.{visible_of}
 use Rattle.csv_tables.specs.declared.options.ColumnPlan.{ColumnPlan}
 
--- positions of columns, counted from 0: the columns that are drawn, in their order, the right-aligned columns, and the
--- left-aligned ones
+-- positions of columns, counted from 0: the columns that are drawn, in their order, the
+-- right-aligned columns, and the left-aligned ones
 pub record ColumnsValue : Type 0 where
   pub drawn : List ℕ
   pub right : List ℕ
@@ -32,7 +32,8 @@ count_of names rows =
 abbrev pub seen : Bool → List Text → List Text
 seen keeps_sequences fields = map (visible_of keeps_sequences) fields
 
--- the alignment of a column: the one that was chosen for it, or else right if its fields are numbers
+-- the alignment of a column: the one that was chosen for it, or else right if its fields are
+-- numbers
 abbrev pub alignment_for : List ℕ → List ℕ → Bool → ℕ → Option CellAlignment
 alignment_for right left has_numbers position =
     if list_any (λ p. p == position) right then Some Right

@@ -101,8 +101,8 @@ greatest_at table f rows i = greatest (map (measured_at table f) (cells_at rows 
 abbrev pub most_cells : List RowValue → ℕ
 most_cells rows = greatest (map (λ (row : RowValue). length row.cells) rows)
 
--- A cleaned field with `behind` spaces after it is drawn without further spaces and without backslashes, and isn't
--- emptied.
+-- A cleaned field with `behind` spaces after it is drawn without further spaces and without
+-- backslashes, and isn't emptied.
 abbrev pub IsKept : Look → Text → ℕ → Type 0
 IsKept look field behind =
     (look.is_markdown ≡ false) × ((is_blank field ≡ false) ⊎ (field ++ spaces behind ≡ []))
@@ -130,8 +130,8 @@ expanded_from rows table infos at [] = []
 expanded_from rows table infos at (fields ∷ left) =
     expanded_record rows table infos at fields ++ expanded_from rows table infos (at + 1) left
 
--- the text of the next records from a place on. The lines above them are included if `is_first` is true, and those
--- below them if `is_last` is true.
+-- the text of the next records from a place on. The lines above them are included if `is_first` is
+-- true, and those below them if `is_last` is true.
 abbrev pub drawn_next : RecordRows → TableValue → List ColumnInfo → ℕ → Bool → Bool
     → List (List Text) → Text
 drawn_next rows table infos at is_first is_last next =

@@ -8,7 +8,8 @@ use Rattle.comfy_parts.specs.Text.{Text}
 use Rattle.comfy_parts.specs.declared.style.table_style.TableStyle.{TableStyle}
 use Rattle.csv_records.specs.Cleaning.{is_harmful, is_replaced}
 
--- the only control characters of the text are line feeds, and no character turns the direction of text
+-- the only control characters of the text are line feeds, and no character turns the direction of
+-- text
 abbrev pub HasNothingHarmful : Text → Type 0
 HasNothingHarmful text = NoCharPasses is_harmful text
 

@@ -11,7 +11,8 @@ use Rattle.csv_tables.specs.declared.options.ColumnPlan.{ColumnPlan}
 
 -- ---- the decimal mark of a column
 
--- the greatest number of characters of a field whose mark is aligned, or that isn't broken over lines
+-- the greatest number of characters of a field whose mark is aligned, or that isn't broken over
+-- lines
 abbrev pub longest_kept : ℕ
 longest_kept = 25
 

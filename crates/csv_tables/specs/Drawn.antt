@@ -64,9 +64,9 @@ column_count selection records =
 
 -- ---- contents
 
--- The names, if there are any, the rows and the columns that are drawn. `count` is the number of records below the
--- header, if it is known. A column of numbers precedes the columns if `is_numbered` is true. `noun` is the word for a
--- record.
+-- The names, if there are any, the rows and the columns that are drawn. `count` is the number of
+-- records below the header, if it is known. A column of numbers precedes the columns if
+-- `is_numbered` is true. `noun` is the word for a record.
 pub record SelectedValue : Type 0 where
   pub names : Option (List Text)
   pub rows : List (List Text)
@@ -81,7 +81,8 @@ columns_of layout records =
     drawn_columns layout.columns
     (map (seen layout.look.has_sequences) (drawn_rows layout.selection records))
 
--- the part of records that is drawn; `counted` is the number of records below the header, if it is known
+-- the part of records that is drawn; `counted` is the number of records below the header, if it is
+-- known
 abbrev pub selected_of : Option ℕ → Layout → List (List Text) → SelectedValue
 selected_of counted layout records =
     record {
@@ -95,7 +96,8 @@ selected_of counted layout records =
 
 -- ---- tables
 
--- the arrangement for a width: columns are as wide as their contents without one, and otherwise keep to it or fill it
+-- the arrangement for a width: columns are as wide as their contents without one, and otherwise
+-- keep to it or fill it
 abbrev pub arrangement_for : Option ℕ → Bool → ContentArrangement
 arrangement_for None fills = Disabled
 arrangement_for (Some width) fills = if fills then DynamicFullWidth else Dynamic
@@ -143,14 +145,16 @@ abbrev pub pairs_table : Look → SelectedValue → TableValue
 pairs_table look content =
     with_rows (flat_map (pairs_in look content) content.rows) (empty_table look)
 
--- true for each column that holds numbers and dates alone, as the column of numbers does; false for all without rows
+-- true for each column that holds numbers and dates alone, as the column of numbers does; false for
+-- all without rows
 abbrev pub nowrap_in : SelectedValue → List Bool
 nowrap_in content =
     (if content.is_numbered then not (length content.rows == 0) ∷ [] else [])
     ++ map (λ (column : ColumnPlan). not (length content.rows == 0) && column.is_nowrap)
     content.columns
 
--- the words that are kept whole before records are expanded: those of names, but none if a row has one line at most
+-- the words that are kept whole before records are expanded: those of names, but none if a row has
+-- one line at most
 abbrev pub least_words : Option ℕ → Words
 least_words None = OfNames
 least_words (Some height) = if nat_le height 1 then Broken else OfNames
@@ -169,8 +173,8 @@ has_room_for look content is_aligned =
 abbrev pub is_aligned_in : Look → SelectedValue → Bool
 is_aligned_in look content = look.aligns_decimals && has_room_for look content true
 
--- the table that is drawn, of expanded records or of rows, with all lines of its style. Its numbers and dates aren't
--- broken if there is room.
+-- the table that is drawn, of expanded records or of rows, with all lines of its style. Its numbers
+-- and dates aren't broken if there is room.
 abbrev pub output_table : Bool → Look → SelectedValue → TableValue
 output_table true look content = with_min_field_width look.width (pairs_table look content)
 output_table false look content =
@@ -201,15 +205,15 @@ HasTallRow table is_tall =
     × (is_tall ≡ list_any (λ height. nat_lt 1 height)
     (map (row_height table (infos_of table widths)) table.rows))
 
--- `has` is true if lines between rows are drawn: always, never, or if a row of the table without them has more than one
--- line
+-- `has` is true if lines between rows are drawn: always, never, or if a row of the table without
+-- them has more than one line
 abbrev pub HasSeparators : RowSeparators → TableValue → Bool → Type 0
 HasSeparators Styled condensed has = has ≡ true
 HasSeparators Never condensed has = has ≡ false
 HasSeparators Needed condensed has = HasTallRow condensed has
 
--- the lines between rows of these records. Between the fields of an expanded record names are enough, so tall rows need
--- no lines.
+-- the lines between rows of these records. Between the fields of an expanded record names are
+-- enough, so tall rows need no lines.
 abbrev pub separators_in : Bool → RowSeparators → RowSeparators
 separators_in false wanted = wanted
 separators_in true Styled = Styled
@@ -339,7 +343,8 @@ abbrev pub markdown_rule : Look → SelectedValue → Text
 markdown_rule look content =
     rule_line (sides content) (max_content_widths (markdown_table look content))
 
--- the lines of a table for Markdown: those of its header, with the rule below the first one, and those of its rows
+-- the lines of a table for Markdown: those of its header, with the rule below the first one, and
+-- those of its rows
 abbrev pub markdown_lines : Text → ArrangedValue → List Text
 markdown_lines rule arranged =
     below_first rule (part_of_drawing arranged.table arranged.infos true false [])
@@ -368,7 +373,8 @@ note_text noun limit None =
 note_text noun limit (Some count) =
     (((decimal limit ++ codes " of ") ++ decimal count) ++ codes " ") ++ several_of noun
 
--- the line with this note, or nothing if all records are drawn; in Markdown an empty line precedes it
+-- the line with this note, or nothing if all records are drawn; in Markdown an empty line precedes
+-- it
 abbrev pub note_for : Noun → Bool → Option ℕ → Option ℕ → Text
 note_for noun is_markdown None count = []
 note_for noun is_markdown (Some limit) count =
@@ -377,8 +383,8 @@ note_for noun is_markdown (Some limit) count =
     ++ (note_text noun limit count ++ codes "\n")
     else []
 
--- `output` is the output for some records: the text of the drawing, and the note about other records. `counted` is the
--- number of records below the header, if it is known.
+-- `output` is the output for some records: the text of the drawing, and the note about other
+-- records. `counted` is the number of records below the header, if it is known.
 pub record RendersRecords (counted : Option ℕ) (layout : Layout) (records : List (List Text))
     (output : Text) : Type 0 where
   pub content : SelectedValue

@@ -36,8 +36,8 @@ abbrev pub SpacesAloneAreAdded : Look → Bool → ColumnPlan → List Text → 
 SpacesAloneAreAdded look is_aligned column fields =
     HasSpacesBehind (field_or_blank fields column.position) (text_in look is_aligned column fields)
 
--- In a column with a decimal mark, the fraction of each field and the spaces after it are together as long as the
--- longest fraction. Neutral fields are exempt.
+-- In a column with a decimal mark, the fraction of each field and the spaces after it are together
+-- as long as the longest fraction. Neutral fields are exempt.
 abbrev pub MarksStandBelow : List Text → Type 0
 MarksStandBelow fields =
     (points : Points) → points_of fields ≡ Some points
@@ -73,7 +73,8 @@ pub record IsOutputWith (counted : Option ℕ) (layout : Layout) (records : List
       output
       ≡ text ++ note_for content.noun layout.look.is_markdown layout.selection.limit content.count
 
--- the table that is drawn of some records: of their rows or of their fields, with lines between rows or without
+-- the table that is drawn of some records: of their rows or of their fields, with lines between
+-- rows or without
 abbrev pub IsDrawnTable : Look → SelectedValue → TableValue → Type 0
 IsDrawnTable look content table =
     (has_separators : Bool) × (table
@@ -81,8 +82,9 @@ IsDrawnTable look content table =
 
 -- ---- what is visible of lines
 
--- Conditions for seeing lines. Lines with their sequences are seen as they are written if nothing is bold. Without
--- sequences they are seen if the style has no control characters, and all fields are UTF-8.
+-- Conditions for seeing lines. Lines with their sequences are seen as they are written if nothing
+-- is bold. Without sequences they are seen if the style has no control characters, and all fields
+-- are UTF-8.
 abbrev pub AreSeen : Bool → Look → List (List Text) → Type 0
 AreSeen false look records = look.has_bold_header ≡ false
 AreSeen true look records = IsHarmlessStyle look.style × All AllText records
@@ -105,8 +107,8 @@ EachText P look records =
     All (λ (fields : List Text). All
     (λ (field : Text). All P (plain_cell (field_text look field)).text_lines) fields) records
 
--- The visible lines of an output take the same number of terminal columns each. Without their sequences, no control
--- character is visible in them.
+-- The visible lines of an output take the same number of terminal columns each. Without their
+-- sequences, no control character is visible in them.
 pub record IsStraightOutput (visible : Bool) (counted : Option ℕ) (layout : Layout)
     (records : List (List Text)) (output : Text) : Type 0 where
   pub lines : List Text

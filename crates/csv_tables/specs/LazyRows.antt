@@ -20,7 +20,8 @@ abbrev pub pair_in : RecordRows → ColumnPlan → Text → RowValue
 pair_in rows column field =
     pair_for rows.look (name_at (unwrap_or rows.selected.names []) column.position) field
 
--- the width of the widest name of the columns before position `count`, as cells are measured in a table
+-- the width of the widest name of the columns before position `count`, as cells are measured in a
+-- table
 abbrev pub names_width : TableValue → RecordRows → ℕ → ℕ
 names_width table rows count =
     greatest (map (λ column. cell_content_width (measured_cell table (name_cell rows column)))

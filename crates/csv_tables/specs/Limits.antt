@@ -1,4 +1,5 @@
--- Columns with their own paddings, least widths and greatest widths. Widths are counted in terminal columns.
+-- Columns with their own paddings, least widths and greatest widths. Widths are counted in terminal
+-- columns.
 -- Source: this library's own.
 use Rattle.std.specs.Prelude.{ℕ, zero, suc, ◌+◌, ◌==◌, Bool, ◌||◌, ◌&&◌, true, false, not, List, [], ◌∷◌, Option, Some, None, length, map, max, min, nat_le, nat_lt, option_map, slice_index, unwrap_or, if◌then◌else◌}
 use Rattle.std.specs.List.{list_all, range_with_len, slice_index_or, sum}
@@ -107,7 +108,8 @@ abbrev pub given_with : List ColumnLimits → ℕ → Wanted → TableValue → 
 given_with limits width wanted table =
     by_columns (reserved_width (level_within limits width wanted table) wanted table) table
 
--- the same for the most words that fit, or nothing without room; without a width, the content widths of the columns
+-- the same for the most words that fit, or nothing without room; without a width, the content
+-- widths of the columns
 abbrev pub given_within : List ColumnLimits → Option ℕ → Wanted → TableValue → List ℕ
 given_within limits None wanted table = max_content_widths table
 given_within limits (Some width) wanted table =
@@ -200,7 +202,8 @@ limited_by limits width wanted table =
     with_widths (reached_limits (with_paddings limits table) limits) width wanted
     (with_paddings limits table)
 
--- true if there is room for such a table: for the spaces that align decimal points, and for its width
+-- true if there is room for such a table: for the spaces that align decimal points, and for its
+-- width
 abbrev pub has_room_in : List ColumnLimits → Option ℕ → Bool → Wanted → TableValue → Bool
 has_room_in limits width is_aligned wanted table =
     (hold_points limits (with_paddings limits table) || not is_aligned)

@@ -24,14 +24,14 @@ abbrev pub is_character : ℕ → Option ℕ → Bool
 is_character c None = false
 is_character c (Some own) = own == c
 
--- true for a character that could begin markup together with the same character later on; an underscore after a letter
--- or a digit can't
+-- true for a character that could begin markup together with the same character later on; an
+-- underscore after a letter or a digit can't
 abbrev pub is_paired : Option ℕ → ℕ → Bool
 is_paired before c =
     list_any (λ mark. mark == c) (codes "*`~") || ((c == 0x5F) && not (is_in_word before))
 
--- true if a character, with `rest` after it, could begin or end markup; an ampersand does if it begins a character
--- reference
+-- true if a character, with `rest` after it, could begin or end markup; an ampersand does if it
+-- begins a character reference
 abbrev pub begins_markup : Option ℕ → ℕ → List ℕ → Bool
 begins_markup before c rest =
     (is_mark c || (is_paired before c && list_any (λ d. d == c) rest))
@@ -51,7 +51,8 @@ is_word_marked before [] = false
 is_word_marked before (c ∷ rest) =
     not (is_space c) && (begins_markup before c rest || is_word_marked (Some c) rest)
 
--- true if the word around the first character is marked; `is_marked` says so for a word that began before it
+-- true if the word around the first character is marked; `is_marked` says so for a word that began
+-- before it
 abbrev pub is_marked_at : Bool → Option ℕ → List ℕ → Bool
 is_marked_at is_marked before text =
     if ends_word before then is_word_marked before text else is_marked
@@ -61,8 +62,8 @@ abbrev pub is_in_address : Option ℕ → ℕ → Option ℕ → Bool
 is_in_address before c after =
     ((c == 0x3A) && is_character 0x2F after) || ((c == 0x2E) && is_character 0x77 before)
 
--- true if a character gets a backslash: it could begin or end markup, or begin an address in a marked word. The
--- backslashes of that word would be read as parts of the address.
+-- true if a character gets a backslash: it could begin or end markup, or begin an address in a
+-- marked word. The backslashes of that word would be read as parts of the address.
 abbrev pub is_special : Bool → Option ℕ → ℕ → List ℕ → Bool
 is_special is_marked before c rest =
     begins_markup before c rest || (is_marked && is_in_address before c (slice_get rest 0))
@@ -72,7 +73,8 @@ abbrev pub escaped_character : Bool → ℕ → List ℕ
 escaped_character special c =
     if c == 0x0A then codes "<br>" else if special then 0x5C ∷ c ∷ [] else c ∷ []
 
--- characters as they are written after the character `before`; `is_marked` says whether its word is marked
+-- characters as they are written after the character `before`; `is_marked` says whether its word is
+-- marked
 abbrev pub escaped_after : Bool → Option ℕ → List ℕ → List ℕ
 escaped_after is_marked before [] = []
 escaped_after is_marked before (c ∷ rest) =
@@ -94,19 +96,20 @@ abbrev pub is_right : Option CellAlignment → Bool
 is_right (Some Right) = true
 is_right _ = false
 
--- the part of the rule for a column of this width: a dash for each terminal column and padding, or a colon for the last
--- one if the column is right-aligned, and then a bar
+-- the part of the rule for a column of this width: a dash for each terminal column and padding, or
+-- a colon for the last one if the column is right-aligned, and then a bar
 abbrev pub rule_part : Option CellAlignment × ℕ → Text
 rule_part p = repeat (p.1 + 1) (codes "-") ++ (if is_right p.0 then codes ":|" else codes "-|")
 
--- the line below the header, for columns of these alignments, and of these widths without their two paddings
+-- the line below the header, for columns of these alignments, and of these widths without their two
+-- paddings
 abbrev pub rule_line : List (Option CellAlignment) → List ℕ → Text
 rule_line sides widths = codes "|" ++ flat_map rule_part (zip sides widths)
 
 -- ---- reading back
 
--- the characters of an escaped text, with a line feed for `<br>`. A backslash isn't one of them, but the character
--- after it is.
+-- the characters of an escaped text, with a line feed for `<br>`. A backslash isn't one of them,
+-- but the character after it is.
 abbrev pub unescaped : List ℕ → List ℕ
 unescaped [] = []
 unescaped (a ∷ []) = a ∷ []

@@ -3,8 +3,8 @@
 use Rattle.std.specs.Prelude.{ℕ, Bool, false, not, ◌==◌, ◌&&◌, List, [], ◌∷◌, ◌++◌, if◌then◌else◌}
 use Rattle.csv_tables.specs.Markdown.{unescaped}
 
--- the parts of a line of which `part` has been read. A bar ends a part, unless it is escaped: it follows a backslash
--- that isn't escaped.
+-- the parts of a line of which `part` has been read. A bar ends a part, unless it is escaped: it
+-- follows a backslash that isn't escaped.
 abbrev pub parts_from : Bool → List ℕ → List ℕ → List (List ℕ)
 parts_from is_escaped part [] = part ∷ []
 parts_from is_escaped part (c ∷ rest) =

@@ -1,5 +1,5 @@
--- Columns and fields that aren't broken over lines, and the widths that have room for them. Widths are counted in
--- terminal columns.
+-- Columns and fields that aren't broken over lines, and the widths that have room for them. Widths
+-- are counted in terminal columns.
 -- Source: this library's own.
 use Rattle.std.specs.Prelude.{ℕ, ◌+◌, ◌-◌, Bool, ◌==◌, ◌&&◌, ◌||◌, true, false, List, [], ◌∷◌, Option, Some, None, chars, codes, filter, length, map, max, min, nat_le, nat_lt, option_and_then, slice_get, slice_index, sum_by, unwrap_or, if◌then◌else◌}
 use Rattle.std.specs.Char.{is_ascii_digit}
@@ -130,13 +130,14 @@ kept_of_word Broken width = 0
 kept_of_word OfNames width = 0
 kept_of_word OfFields width = kept_word width
 
--- the width that a column keeps for its fields: all of it, if they aren't broken, or else that of a word
+-- the width that a column keeps for its fields: all of it, if they aren't broken, or else that of a
+-- word
 abbrev pub kept_of_fields : Words → Bool → ℕ → ℕ
 kept_of_fields words is_nowrap need =
     if is_nowrap then max least_level need else kept_of_word words need
 
--- the width that the column at a position keeps in any case: all of a narrow content, or else the width that its fields
--- and its name need
+-- the width that the column at a position keeps in any case: all of a narrow content, or else the
+-- width that its fields and its name need
 abbrev pub min_width : Wanted → TableValue → ℕ → ℕ
 min_width wanted table i =
     let content = column_content_width table i in
@@ -146,8 +147,8 @@ min_width wanted table i =
     else min content (max (kept_of_name wanted.words (wide_word table (name_in table i)))
     (kept_of_fields wanted.words is_nowrap (min content (fields_need is_nowrap table i))))
 
--- the content width of a column, if columns share a width up to a level: the level at most, but not less than the
--- column keeps
+-- the content width of a column, if columns share a width up to a level: the level at most, but not
+-- less than the column keeps
 abbrev pub shared_content : ℕ → ℕ → ℕ → ℕ
 shared_content level kept content = max 1 (max kept (min level content))
 
@@ -196,15 +197,15 @@ abbrev pub with_lower_bounds : List ℕ → TableValue → TableValue
 with_lower_bounds kept table =
     record table { columns = constrained (map lower_bound kept) table.columns }
 
--- the content width that the column at a position gets beforehand: the width that it keeps, if it isn't broken or keeps
--- more than the level, and otherwise 0
+-- the content width that the column at a position gets beforehand: the width that it keeps, if it
+-- isn't broken or keeps more than the level, and otherwise 0
 abbrev pub reserved_width : ℕ → Wanted → TableValue → ℕ → ℕ
 reserved_width level wanted table i =
     let kept = min_width wanted table i in
     if unwrap_or (slice_get wanted.nowrap i) false || nat_lt level kept then kept else 0
 
--- The words that are kept whole in a width: the wanted ones if all contents have room. Otherwise those of names and
--- fields, or those of names, or the wanted ones, whichever has room first.
+-- The words that are kept whole in a width: the wanted ones if all contents have room. Otherwise
+-- those of names and fields, or those of names, or the wanted ones, whichever has room first.
 abbrev pub with_most_words : (ℕ → Wanted → Bool) → ℕ → Wanted → Wanted
 with_most_words fits width wanted =
     if fits width wanted
@@ -269,8 +270,8 @@ cell_nowrap_width room cell = greatest (map (nowrap_width room) cell.text_lines)
 abbrev pub field_width : ℕ → TableValue → ℕ
 field_width room table = greatest (map (cell_nowrap_width room) (column_cells table 1))
 
--- true if a field of this width might be broken beside names of this content: the room is smaller than the field and
--- the lesser of both together
+-- true if a field of this width might be broken beside names of this content: the room is smaller
+-- than the field and the lesser of both together
 abbrev pub may_break : ℕ → ℕ → ℕ → Bool
 may_break room names field = nat_lt room (min names field + field)
 
@@ -289,12 +290,14 @@ with_second content (names ∷ fields ∷ more) =
 abbrev pub with_field_width : ℕ → TableValue → TableValue
 with_field_width content table = record table { columns = with_second content table.columns }
 
--- a table with room for a field of this width, if the field might be broken; otherwise the table stays as it is
+-- a table with room for a field of this width, if the field might be broken; otherwise the table
+-- stays as it is
 abbrev pub with_room_for : ℕ → ℕ → ℕ → TableValue → TableValue
 with_room_for room names field table =
     if may_break room names field then with_field_width field table else table
 
--- the table of expanded records in a width: no number and no date of a field is broken if it has room beside the names
+-- the table of expanded records in a width: no number and no date of a field is broken if it has
+-- room beside the names
 abbrev pub with_min_field_width : Option ℕ → TableValue → TableValue
 with_min_field_width None table = table
 with_min_field_width (Some width) table =

@@ -16,12 +16,14 @@ pub record CellSettingsValue : Type 0 where
   pub background : Option Color
   pub attributes : List Attribute
 
--- the settings of a row, and of its cells, which are listed by the positions of fields in the record
+-- the settings of a row, and of its cells, which are listed by the positions of fields in the
+-- record
 pub record RowSettingsValue : Type 0 where
   pub max_height : Option ℕ
   pub cells : List CellSettingsValue
 
--- the settings of a table: of columns, which are listed by the positions of fields, of the header, and of each record
+-- the settings of a table: of columns, which are listed by the positions of fields, of the header,
+-- and of each record
 pub record SettingsValue : Type 0 where
   pub columns : List ColumnSettings
   pub rows : List RowSettingsValue

@@ -1,5 +1,5 @@
--- Drawings of records whose columns, rows and cells have settings of their own. Without settings each definition
--- computes to its counterpart in `Drawn`.
+-- Drawings of records whose columns, rows and cells have settings of their own. Without settings
+-- each definition computes to its counterpart in `Drawn`.
 -- Source: this library's own.
 use Rattle.std.specs.Prelude.{ℕ, ◌==◌, Bool, true, false, ◌&&◌, ◌||◌, ◌≡◌, List, [], ◌∷◌, ◌++◌, Option, Some, None, is_some, length, map, max, option_map, slice_get, if◌then◌else◌}
 use Rattle.std.specs.Option.{option_or}
@@ -30,7 +30,8 @@ with_centers settings content =
     then content
     else record content { columns = map (centered settings) content.columns }
 
--- the limits of the columns that are drawn; settings are listed by the positions of fields in records
+-- the limits of the columns that are drawn; settings are listed by the positions of fields in
+-- records
 abbrev pub column_limits : List ColumnSettings → SelectedValue → List ColumnLimits
 column_limits settings content =
     (if content.is_numbered then no_limits ∷ [] else [])
@@ -72,7 +73,8 @@ dressed_rows content [] (row ∷ rows) = row ∷ rows
 dressed_rows content (own ∷ settings) (row ∷ rows) =
     dressed_row content own row ∷ dressed_rows content settings rows
 
--- a table of rows with the settings of its header and its rows; colours and attributes are always written
+-- a table of rows with the settings of its header and its rows; colours and attributes are always
+-- written
 abbrev pub dressed_table : SelectedValue → List RowSettingsValue → TableValue → TableValue
 dressed_table content [] table = table
 dressed_table content (heading ∷ settings) table =
@@ -89,7 +91,8 @@ styled_rows settings look content is_aligned =
 
 -- ---- tables
 
--- true if there is room for the table of rows: for the spaces that align decimal points, and for its width
+-- true if there is room for the table of rows: for the spaces that align decimal points, and for
+-- its width
 abbrev pub has_room_by : SettingsValue → Look → SelectedValue → Bool → Bool
 has_room_by settings look content is_aligned =
     has_room_in (limits_in settings.columns content) look.width is_aligned (wanted_in look content)
@@ -141,7 +144,8 @@ RendersStyledContent settings true look content text = RendersAsMarkdown look co
 RendersStyledContent settings false look content text =
     RendersStyled settings look (with_centers settings.columns content) text
 
--- `output` is the output for some records; `counted` is the number of records below the header, if it is known
+-- `output` is the output for some records; `counted` is the number of records below the header, if
+-- it is known
 pub record RendersStyledRecords (settings : SettingsValue) (counted : Option ℕ)
     (layout : Layout) (records : List (List Text)) (output : Text) : Type 0 where
   pub content : SelectedValue
