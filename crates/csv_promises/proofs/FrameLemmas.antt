@@ -95,7 +95,7 @@ frame_has_room is_expanded has look content n some few =
     let table = separated_table has (output_table is_expanded look content) in
     least table n some (omega (arith, few, most_columns is_expanded has look content)) (columns-drawn (separated has look) Any content table (any_drawn look content is_expanded has))
 
--- ---- where a width has room for rows
+-- ---- widths with room for rows
 
 module _ (look : Look) (content : SelectedValue) (has : Bool) where
   abbrev rows : TableValue
