@@ -37,7 +37,7 @@ texts words = map (λ (word : String). codes word) words
 lines_below : map (λ (count : ℕ). below_lines count (codes "a\r\n\nb\rc")) (0 ∷ 1 ∷ 2 ∷ 3 ∷ 4 ∷ 9 ∷ []) ≡ texts ("a\r\n\nb\rc" ∷ "\nb\rc" ∷ "b\rc" ∷ "c" ∷ "" ∷ "" ∷ [])
 lines_below = refl
 
--- ---- what stands between fields
+-- ---- the delimiter
 
 -- the number of records that have the commonest number of fields above 1
 agreements : map agreement ([] ∷ (1 ∷ 1 ∷ 1 ∷ []) ∷ (3 ∷ 3 ∷ 2 ∷ []) ∷ (1 ∷ 1 ∷ 1 ∷ 4 ∷ []) ∷ (2 ∷ 5 ∷ 2 ∷ 5 ∷ 3 ∷ 5 ∷ []) ∷ []) ≡ 0 ∷ 0 ∷ 2 ∷ 1 ∷ 3 ∷ []
