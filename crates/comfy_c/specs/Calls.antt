@@ -14,7 +14,7 @@ abbrev pub with_front : Text → Text → Text
 with_front text buffer =
     if nat_le (length text) (length buffer) then text ++ drop (length text) buffer else buffer
 
--- the caller gets a text with property P, in a buffer that may be too small, and its length
+-- the caller gets the length of a text with property P, and the text if its buffer has room for it
 pub record IsHanded (P : Text → Type 0) (buffer : Text) (after : Text) (needed : ℕ) : Type 0 where
   pub text : Text
   pub is_so : P text

@@ -37,8 +37,8 @@ use Rattle.csv_tables.specs.declared.options.RowSeparators.TheVariants.{Styled, 
 abbrev pub has_end : Text → Text → Bool
 has_end end path = str_eq_ignore_ascii_case (drop (length path - length end) path) end
 
--- the delimiter if no argument sets it: the one found in the input, or TAB in a file with such a
--- name
+-- the delimiter if no argument sets it: for a file `.tsv` or `.tab`, TAB unless its first line
+-- names another one, and otherwise the one that is found in the input
 abbrev pub delimiter_by : Option Text → Delimiter
 delimiter_by None = AutoDelimiter
 delimiter_by (Some path) =

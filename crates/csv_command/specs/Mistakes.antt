@@ -70,7 +70,7 @@ number_reason option greatest word =
     ++ (codes " takes a number from 0 to "
     ++ (decimal greatest ++ (codes ", not '" ++ (word ++ codes "'"))))
 
--- options before which other programs expect the number of records to draw
+-- options of other programs whose value is the number of records to draw
 abbrev pub limits_elsewhere : List Text
 limits_elsewhere =
     codes "-n" ∷ codes "--head" ∷ codes "--max-rows" ∷ codes "--nrows" ∷ codes "--rows" ∷ []

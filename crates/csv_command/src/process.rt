@@ -61,8 +61,8 @@ fn writer_of<W: Write>(writer: W) -> WriterTo<W> {
     ToWriter::new(Uninterrupted::new(writer))
 }
 
-// Writes the message and returns the status. Help goes to standard output, and its failures are
-// reported. A failure to write to standard error can't be reported anywhere.
+// Writes the message and returns the status. Help goes to standard output; if it can't be written,
+// the status is 1. A failure to write to standard error changes nothing.
 fn end(rt: &HostRuntime, ending: &Ending) -> ExitCode {
     let text = ending.said.text().as_bytes();
     if ending.is_message {

@@ -20,8 +20,8 @@ use std::alloc::Global;
 ///
 /// A column is right-aligned if all of its drawn fields are numbers or neutral, and one is a
 /// number. `--right` and `--left` override this. In a right-aligned column with a decimal mark,
-/// spaces after shorter fractions align the marks. This can be turned off, and is left out under a
-/// width without room for the spaces. The fields of expanded records are left-aligned.
+/// spaces after shorter fractions align the marks, unless `--no-decimal` is given. Under a width,
+/// marks may be left unaligned. The fields of expanded records are left-aligned.
 ///
 /// Under `--expanded auto` no number and no date is split over lines, if records aren't expanded. A
 /// column is at least as wide as its widest field if all of its fields are neutral, numbers or

@@ -100,9 +100,10 @@ IsAsciiUnlessAsked Auto delimiter = delimiter < 128
 IsAsciiUnlessAsked NamedOrTab delimiter = delimiter < 128
 IsAsciiUnlessAsked Spaces delimiter = delimiter < 128
 
--- A text shows its delimiter, however it goes on, in one of three cases: the delimiter is a given
--- byte other than a line feed, or the first line names it, or each tried delimiter gives the text
--- more records than are compared. If spaces are the delimiter, no beginning is enough.
+-- A text shows its delimiter, however it goes on, in one of four cases: the delimiter is a given
+-- byte other than a line feed, or `NamedOrTab` is set, or the first line names it, or each tried
+-- delimiter gives the text more records than are compared. If spaces are the delimiter, no
+-- beginning is enough.
 abbrev pub shows_delimiter : Delimiter → Bool → Text → Bool
 shows_delimiter (Byte b) has_quotes text = not (b == 0x0A)
 shows_delimiter Auto has_quotes text =

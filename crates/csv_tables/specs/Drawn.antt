@@ -153,13 +153,13 @@ nowrap_in content =
     ++ map (λ (column : ColumnPlan). not (length content.rows == 0) && column.is_nowrap)
     content.columns
 
--- the words that are kept whole before records are expanded: those of names, but none if a row has
--- one line at most
+-- the words that a table of rows keeps whole: those of names, but none if a row has one line at
+-- most
 abbrev pub least_words : Option ℕ → Words
 least_words None = OfNames
 least_words (Some height) = if nat_le height 1 then Broken else OfNames
 
--- the columns and words that are kept whole before records are expanded
+-- the columns and words that a table of rows keeps whole; records are expanded if they have no room
 abbrev pub wanted_in : Look → SelectedValue → Wanted
 wanted_in look content =
     record { nowrap = nowrap_in content; words = least_words look.max_height }
