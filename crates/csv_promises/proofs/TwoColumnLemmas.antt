@@ -30,7 +30,7 @@ two_of column = min 2 column.content
 abbrev pub HasTwo : ColumnNeeds → ℕ → Type 0
 HasTwo column width = (two_of column ≤ width) ⊎ ((b : ℕ) × (column.longest b + 3 ≤ b) × (max 1 (column.longest b) ≤ width))
 
--- the need of a column without a fixed width: its lower bound without padding, two terminal columns, or its content
+-- the need of a column without a fixed width: its lower boundary without padding, two terminal columns, or its content
 abbrev pub needed_of : ColumnNeeds → ℕ
 needed_of column = max (lower_or_one column.padding column.lower) (two_of column)
 
@@ -38,7 +38,7 @@ needed_of column = max (lower_or_one column.padding column.lower) (two_of column
 abbrev pub needed_in_all : ColumnNeeds → ℕ
 needed_in_all column = unwrap_or column.fixed (needed_of column)
 
--- fixed widths and lower bounds are at least that wide, and there is no upper bound
+-- fixed widths and lower boundaries are at least that wide, and there is no upper boundary
 pub record KeepsTwo (column : ColumnNeeds) : Type 0 where
   pub fixed : (width : ℕ) → column.fixed ≡ Some width → two_of column ≤ width
   pub lower : (b width : ℕ) → lower_of_boundary b column.padding column.lower ≡ Some width → two_of column ≤ width
@@ -128,7 +128,7 @@ fixed_and_needed n (column ∷ more) = by_fixed column.fixed (fixed_and_needed (
 
 -- ---- a level of one
 
--- without an upper bound, a level settles a content that fits it
+-- without an upper boundary, a level settles a content that fits it
 settles : (level : ℕ) (column : ColumnNeeds) → column.upper ≡ None → settled_at (Some level) column ≡ (if nat_le column.content level then Some (max 1 column.content) else None)
 settles level column none = ap (λ (o : Option ℕ). fit_at level column (upper_at level column o)) none
 
@@ -222,7 +222,7 @@ module _ (room : ℕ) (columns : List ColumnNeeds) (keeps : AllByRecursion Keeps
   even_kept : AllByRecursion IsKept (even_columns room columns steps)
   even_kept = every-filter IsKept (λ (p : Positioned). not (has_claim steps.shrunk p.0)) left left_kept
 
-  -- lower bounds leave room for the needs of the other columns
+  -- lower boundaries leave room for the needs of the other columns
   rest_fits : sum_by needed_at rest ≤ rest_room
   rest_fits =
       let within = taken_within free (lower_offer (content_room room columns) free) (λ taken p width is. omega (arith, takes (average (content_room room columns) free taken) p.1.padding p.1.lower width is)) 0 [] steps.lower arranged.lower_taken in

@@ -70,15 +70,15 @@ paddings column new =
 
 -- ---- columns with a lower boundary
 
--- a lower bound that is fixed at once has room for the content with its paddings
+-- a lower boundary that is fixed at once has room for the content with its paddings
 boundary-fixed : (content padding l width : ℕ) → fixed_by_boundary content padding (Some l) ≡ Some width → (content + padding ≤ l) × (width ≡ without_padding padding l)
 boundary-fixed content padding l width is = grind arith
 
--- a lower bound that is taken is greater than the average
+-- a lower boundary that is taken is greater than the average
 boundary-taken : (b padding l width : ℕ) → lower_of_boundary b padding (Some l) ≡ Some width → (b < l) × (width ≡ without_padding padding l)
 boundary-taken b padding l width is = grind arith
 
--- either takes at most the lower bound, or two terminal columns
+-- either takes at most the lower boundary, or two terminal columns
 boundary-most : (content padding l two : ℕ) → unwrap_or (fixed_by_boundary content padding (Some l)) (max (without_padding padding l) two) ≤ max (without_padding padding l) two
 boundary-most content padding l two = by_test (nat_le (content + padding) l)
   where

@@ -16,7 +16,7 @@ use Rattle.csv_records.specs.declared.delimiter.Delimiter.TheVariants.{Spaces}
 use Rattle.csv_records.specs.declared.longer.LongRecords.{LongRecords}
 use Rattle.csv_records.specs.declared.options.InputOptions.{InputOptions}
 
--- ---- where a record begins
+-- ---- lines of records
 
 -- a text without the line ends at its front
 abbrev pub skip_newlines : Text → Text

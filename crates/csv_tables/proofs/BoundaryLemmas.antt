@@ -1,4 +1,4 @@
--- A column with a lower bound is drawn at least as wide as a text that fits the bound.
+-- A column with a lower boundary is drawn at least as wide as a text that fits the boundary.
 use Rattle.std.proofs.Common.{◌≡◌, ◌<◌, ◌≤◌, ◌==◌, ◌&&◌, ℕ, ◌+◌, ◌-◌, ◌*◌, ◌/◌, Bool, not, List, [], ◌∷◌, ◌++◌, Option, Some, None, filter, is_none, length, max, nat_le, nat_lt, option_map, refl, sym, ap, ◌∙◌, subst, arith}
 use Rattle.std.specs.List.{AllByRecursion, AllZip, cons_option}
 use Rattle.std.specs.Prelude.{if◌then◌else◌}
@@ -19,19 +19,19 @@ use Rattle.comfy_table.specs.Widths.{ColumnNeeds, even_spread}
 
 -- ---- what is kept
 
--- a width has room for a text that fits the lower bound and the content, if wrapping in a wider column leaves the text
--- whole
+-- a width has room for a text that fits the lower boundary and the content, if wrapping in a wider column leaves the
+-- text whole
 abbrev pub KeepsBoundary : ColumnNeeds → ℕ → Type 0
 KeepsBoundary column width =
     (m l : ℕ) → column.lower ≡ Some l → column.upper ≡ None → ((x : ℕ) → column.fixed ≡ Some x → m ≤ x) → m + column.padding ≤ l → m ≤ column.content → ((n : ℕ) → m ≤ n → m ≤ max 1 (column.longest n)) → m ≤ width
 
--- a bound that is taken as a width has this room
+-- a boundary that is taken as a width has this room
 taken-keeps : (b : ℕ) (column : ColumnNeeds) (width : ℕ) → lower_of_boundary b column.padding column.lower ≡ Some width → KeepsBoundary column width
 taken-keeps b column width is m l lower upper fixed enough content longest =
     let own : (if nat_lt b l then Some (max 1 (l - column.padding)) else None) ≡ Some width = ap (lower_of_boundary b column.padding) (sym lower) ∙ is in
     grind (arith, own, enough)
 
--- a bound that isn't taken is at most the average
+-- a boundary that isn't taken is at most the average
 passed : (b padding l : ℕ) → lower_of_boundary b padding (Some l) ≡ None → l ≤ b
 passed b padding l is = grind arith
 
@@ -64,11 +64,11 @@ settled-within level n (p ∷ more) one = by_offer (settled_at (Some level) p.1)
     by_offer None most own = own
     by_offer (Some width) most own = let one_more = most width refl in omega (arith, own, one_more, sum_by-cons (λ (t : Claim). t.1) (p.0, width) claims)
 
--- a claim of a column at its position keeps the bound of that column
+-- a claim of a column at its position keeps the boundary of that column
 claim_for : (columns : List ColumnNeeds) (p : Positioned) (width : ℕ) → IsColumnAt columns p → KeepsBoundary p.1 width → IsClaimFor KeepsBoundary columns (p.0, width)
 claim_for columns p width at holds column same = let one : p.1 ≡ column = cc (at, same) in subst (λ (c : ColumnNeeds). KeepsBoundary c width) one holds
 
--- claims that are taken one after another keep the bounds
+-- claims that are taken one after another keep the boundaries
 module _ (columns : List ColumnNeeds) (candidates : List Positioned) (offer : List Claim → Positioned → Option ℕ) (each : AllByRecursion (IsColumnAt columns) candidates)
     (gives : (taken : List Claim) (p : Positioned) (width : ℕ) → offer taken p ≡ Some width → KeepsBoundary p.1 width) where
   every_taken : (from : ℕ) (taken order : List Claim) → IsTakenAfter candidates offer from taken order → AllByRecursion (IsClaimFor KeepsBoundary columns) order
@@ -108,11 +108,11 @@ module _ (room : ℕ) (columns : List ColumnNeeds) (full : Bool) (steps : Steps)
   abbrev even_count : ℕ
   even_count = length (even_columns room columns steps)
 
-  -- the average room of the columns after lower bounds have taken theirs
+  -- the average room of the columns after lower boundaries have taken theirs
   abbrev share : ℕ
   share = rest_room / length rest
 
-  -- a column at its position, whose bound is at most this average
+  -- a column at its position, whose boundary is at most this average
   abbrev IsPassed : Positioned → Type 0
   IsPassed p = IsColumnAt columns p × ((l : ℕ) → p.1.lower ≡ Some l → l ≤ share)
 
@@ -206,7 +206,7 @@ module _ (room : ℕ) (columns : List ColumnNeeds) (full : Bool) (steps : Steps)
       enough_left : floor steps.level * even_count ≤ spread
       enough_left = let has = taken.1 in omega (arith, has)
 
-  -- each content width keeps its bound
+  -- each content width keeps its boundary
   contents_keep : AllZip KeepsBoundary columns (contents_after room columns steps)
   contents_keep =
       all_zip-contents KeepsBoundary columns (all_claims room columns steps) 0 columns
@@ -218,7 +218,7 @@ module _ (room : ℕ) (columns : List ColumnNeeds) (full : Bool) (steps : Steps)
       (every-append (IsClaimFor KeepsBoundary columns) (settled_claims steps.level rest) (steps.shrunk ++ even_shares room columns steps) settled_for
       (every-append (IsClaimFor KeepsBoundary columns) steps.shrunk (even_shares room columns steps) shrunk_for even_for))))
 
--- added widths keep the bounds too
+-- added widths keep the boundaries too
 added_keeps : (columns : List ColumnNeeds) (xs ys : List ℕ) → length ys ≡ length columns → AllZip KeepsBoundary columns xs → AllZip KeepsBoundary columns (added xs ys)
 added_keeps [] [] ys same each = tt
 added_keeps [] (x ∷ xs) ys same each = absurd each
@@ -229,7 +229,7 @@ added_keeps (column ∷ more) (x ∷ xs) (y ∷ ys) same each = (
   added_keeps more xs ys (omega (arith, same)) each.1,
 )
 
--- so each width keeps its bound
+-- so each width keeps its boundary
 pub dynamic_keeps_boundaries : (room : ℕ) (columns : List ColumnNeeds) (full : Bool) (widths : List ℕ) → IsDynamicLayout room columns full widths → AllZip KeepsBoundary columns widths
 dynamic_keeps_boundaries room columns full widths (steps, arranged) =
     let contents = contents_keep room columns full steps widths arranged in

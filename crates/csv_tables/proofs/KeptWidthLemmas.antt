@@ -96,7 +96,7 @@ fixed_is_kept room columns full steps k x at = by_test (full && (length (even_co
 abbrev given_needs : TableValue → ℕ → ℕ → ColumnValue → ColumnNeeds
 given_needs table i kept column = needs_of table (i, record column { constraint = Some (lower_bound kept) })
 
--- the width of a column with a lower bound has room for a text that fits the bound
+-- the width of a column with a lower boundary has room for a text that fits the boundary
 width_at : (table : TableValue) (kept : ℕ → ℕ) (widths : List ℕ) (columns : List ColumnValue) (n i : ℕ) → AllByRecursion IsNewColumn columns → i < length columns
     → AllZip KeepsBoundary (map (needs_of table) (enumerate_from n (leasts_on (map kept (range_with_len n (length columns))) columns))) (map (λ (p : ℕ × ColumnValue). slice_index widths p.0) (enumerate_from n (leasts_on (map kept (range_with_len n (length columns))) columns)))
     → (column : ColumnValue) × IsNewColumn column × KeepsBoundary (given_needs table (n + i) (kept (n + i)) column) (slice_index widths (n + i))
@@ -109,7 +109,7 @@ width_at table kept widths (c ∷ cs) n (suc i) new below each =
     let own = width_at table kept widths cs (n + 1) i new.1 (omega (arith, below)) each.1 in
     (own.0, own.1, subst (λ (j : ℕ). KeepsBoundary (given_needs table j (kept j) own.0) (slice_index widths j)) place own.2)
 
--- a width that a lower bound fixes is the bound without padding
+-- a width that a lower boundary fixes is the boundary without padding
 fixed-boundary : (content padding kept x : ℕ) → padding ≡ 2 → 0 < kept → fixed_by_boundary content padding (Some (boundary_for kept)) ≡ Some x → kept ≤ x
 fixed-boundary content padding kept x two some is =
     let l = boundary-some kept some in

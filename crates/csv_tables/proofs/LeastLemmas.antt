@@ -1,4 +1,4 @@
--- The least widths of columns: the widths that constraints fix, the lower bounds, and one terminal column for each
+-- The least widths of columns: the widths that constraints fix, the lower boundaries, and one terminal column for each
 -- other column.
 use Rattle.std.proofs.Common.{◌≡◌, ◌≤◌, ◌==◌, ◌||◌, ℕ, ◌+◌, Bool, true, false, cond, not, List, [], ◌∷◌, ◌++◌, Option, Some, None, append-nil, filter, is_none, length, option_map, sum_by, unwrap_or, refl, sym, ap, ◌∙◌, arith}
 use Rattle.std.specs.List.{AllByRecursion, cons_option, enumerate_from, list_any}
@@ -14,7 +14,7 @@ use Rattle.comfy_table.specs.Dynamic.{Claim, IsArrangedBy, IsTakenAfter, Positio
 use Rattle.comfy_table.specs.Laws.{least_with_steps}
 use Rattle.comfy_table.specs.Widths.{ColumnNeeds, without_padding}
 
--- a lower bound without padding, or one terminal column
+-- a lower boundary without padding, or one terminal column
 abbrev pub lower_or_one : ℕ → Option ℕ → ℕ
 lower_or_one padding None = 1
 lower_or_one padding (Some l) = without_padding padding l

@@ -33,11 +33,11 @@ given_is_shared level level2 wanted table i = by_test (unwrap_or (slice_get want
     by_test true = omega arith
     by_test false = omega arith
 
--- a lower bound is the content width with its paddings, if there is content
+-- a lower boundary is the content width with its paddings, if there is content
 pub boundary-some : (content : ℕ) → 0 < content → boundary_for content ≡ content + 2
 boundary-some content some = ap (λ (b : Bool). if b then content + 2 else 0) (lt-ltb 0 content some)
 
--- a lower bound is at most the content width with its paddings
+-- a lower boundary is at most the content width with its paddings
 pub boundary-within : (content : ℕ) → boundary_for content ≤ content + 2
 boundary-within zero = omega arith
 boundary-within (suc n) = omega (arith, boundary-some (suc n) (omega arith))

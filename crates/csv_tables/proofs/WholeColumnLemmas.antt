@@ -48,11 +48,11 @@ needs-cons column content columns contents own more =
 
 -- ---- columns of a table
 
--- columns with these content widths as lower bounds
+-- columns with these content widths as lower boundaries
 abbrev pub leasts_on : List ℕ → List ColumnValue → List ColumnValue
 leasts_on kept columns = constrained (map lower_bound kept) columns
 
--- a lower bound that is fixed at once takes as much as one that isn't
+-- a lower boundary that is fixed at once takes as much as one that isn't
 as_much : (content padding l : ℕ) → unwrap_or (fixed_by_boundary content padding (Some l)) (without_padding padding l) ≡ without_padding padding l
 as_much content padding l = by_test (nat_le (content + padding) l)
   where

@@ -29,8 +29,8 @@ use Rattle.csv_tables.specs.declared.options.Look.{Look}
 
 -- ---- room
 
--- the width has room for the fixed widths and the lower bounds of a table, and for one terminal column of each other
--- column
+-- the width has room for the fixed widths and the lower boundaries of a table, and for one terminal column of each
+-- other column
 pub record HasRoom (w : ℕ) (table : TableValue) : Type 0 where
   pub contents : List ℕ
   pub needs : AreNeeds (shown_needs table) contents

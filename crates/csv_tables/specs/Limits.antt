@@ -121,7 +121,7 @@ given_within limits (Some width) wanted table =
 abbrev pub with_both_paddings : ColumnLimits → ℕ → ℕ
 with_both_paddings limits width = min 65535 (width + both_paddings limits)
 
--- the lower bound of the width of a column that is given this content width, or 0 for none
+-- the lower boundary of the width of a column that is given this content width, or 0 for none
 abbrev pub lower_limit : ColumnLimits → ℕ → ℕ
 lower_limit limits given =
     if nat_lt 0 (bounded limits given) then with_both_paddings limits (bounded limits given) else 0

@@ -184,7 +184,7 @@ abbrev pub has_room : Option ℕ → Wanted → TableValue → Bool
 has_room None wanted table = true
 has_room (Some width) wanted table = nat_le (least_width wanted table) width
 
--- the width of this content with its paddings, or 0 for no content, which is no bound
+-- the width of this content with its paddings, or 0 for no content, which is no boundary
 abbrev pub boundary_for : ℕ → ℕ
 boundary_for content = if nat_lt 0 content then content + 2 else 0
 
@@ -192,7 +192,7 @@ boundary_for content = if nat_lt 0 content then content + 2 else 0
 abbrev pub lower_bound : ℕ → ColumnConstraint
 lower_bound content = LowerBoundary (Fixed (boundary_for content))
 
--- a table whose columns have these lower bounds
+-- a table whose columns have these lower boundaries
 abbrev pub with_lower_bounds : List ℕ → TableValue → TableValue
 with_lower_bounds kept table =
     record table { columns = constrained (map lower_bound kept) table.columns }
@@ -231,7 +231,7 @@ given_to width wanted table =
 abbrev pub given_in : ℕ → Wanted → TableValue → List ℕ
 given_in width wanted table = given_to width (most_wanted width wanted table) table
 
--- a table with these lower bounds, if the width has room; otherwise the table stays as it is
+-- a table with these lower boundaries, if the width has room; otherwise the table stays as it is
 abbrev pub with_min_widths : Option ℕ → Wanted → TableValue → TableValue
 with_min_widths None wanted table = table
 with_min_widths (Some width) wanted table =

@@ -216,7 +216,7 @@ has_room = record { columns = omega arith; widths = λ i cell found. at i cell f
 
 -- ---- what is refused
 
--- a character of two terminal columns where one is allowed
+-- a character of two terminal columns, though one is allowed
 pub wide_is_refused : ¬ (CharactersFit 1 (utf8 "京"))
 unfolding wrapping encode
 wide_is_refused is = cc is

@@ -36,7 +36,7 @@ five_spaces : IsDrawingOf (with_constraints (Some (Absolute (Fixed 5)) ∷ []) (
 unfolding wrapping
 five_spaces = (3 ∷ [], at_widths refl refl refl, refl)
 
--- an upper bound is compared with the content without its padding
+-- an upper boundary is compared with the content without its padding
 boundary_above_content : IsDrawingOf (with_constraints (Some (UpperBoundary (Fixed 6)) ∷ []) (rows_of ascii_full (("abcde" ∷ []) ∷ []))) (texts ("+-------+" ∷ "| abcde |" ∷ "+-------+" ∷ []))
 unfolding wrapping
 boundary_above_content = (5 ∷ [], at_widths refl refl refl, refl)
@@ -321,7 +321,7 @@ full_width_widens_early_columns : IsDrawingOf
 unfolding wrapping
 full_width_widens_early_columns = (8 ∷ [], at_widths refl refl (by_steps (record { lower = []; level = Some 1; shrunk = [] }) refl (lit≤ tt, lit≤ tt, lit≤ tt, λ none. absurd_below none) refl refl), refl)
 
--- the average is 8, and the lower bound gets 10 without the paddings
+-- the average is 8, and the lower boundary gets 10 without the paddings
 lower_boundary_above_the_average : IsDrawingOf
     (arranged Dynamic 24 (with_constraints (Some (LowerBoundary (Fixed 10)) ∷ []) (rows_of ascii_full (("aaaaaaaaaaaaaaaaaaaa" ∷ "b" ∷ []) ∷ [])))) (texts
     ("+----------+---+"
@@ -332,7 +332,7 @@ lower_boundary_above_the_average : IsDrawingOf
 unfolding wrapping
 lower_boundary_above_the_average = (8 ∷ 1 ∷ [], at_widths refl refl (by_steps (record { lower = (0, 8) ∷ []; level = Some 9; shrunk = [] }) (refl, refl) (lit≤ tt, lit≤ tt, lit≤ tt, λ none. absurd_below none) refl refl), refl)
 
--- the average is 26, so the lower bound isn't taken
+-- the average is 26, so the lower boundary isn't taken
 lower_boundary_below_the_average : IsDrawingOf
     (arranged Dynamic 60 (with_constraints (Some (LowerBoundary (Fixed 10)) ∷ []) (rows_of ascii_full (("aaaaaaaaaaaaaaaaaaaa" ∷ "b" ∷ []) ∷ [])))) (texts
     ("+----------------------+---+"
@@ -341,7 +341,7 @@ lower_boundary_below_the_average : IsDrawingOf
 unfolding wrapping
 lower_boundary_below_the_average = (20 ∷ 1 ∷ [], at_widths refl refl (by_steps (record { lower = []; level = Some 26; shrunk = [] }) refl (lit≤ tt, lit≤ tt, lit≤ tt, λ none. absurd_below none) refl refl), refl)
 
--- the average is 5, the upper bound allows 4, and 6 are left
+-- the average is 5, the upper boundary allows 4, and 6 are left
 upper_boundary_below_the_average : IsDrawingOf
     (arranged Dynamic 17 (with_constraints (Some (UpperBoundary (Fixed 6)) ∷ []) (rows_of ascii_full (("aaaaaaaaaa" ∷ "bbbbbbbbbb" ∷ []) ∷ [])))) (texts
     ("+------+--------+"
@@ -378,7 +378,7 @@ unfolding wrapping
 third_column_shrinks_at_full_width =
     at_widths refl refl (by_steps (record { lower = []; level = Some 21; shrunk = (2, 17) ∷ [] }) refl (lit≤ tt, lit≤ tt, lit≤ tt, λ some. refl) (refl, refl) refl)
 
--- at 10 the first column shrinks to 7; the second then has 13, where its text fits
+-- at 10 the first column shrinks to 7; the second then has 13, and its text fits
 one_shrinks_and_one_does_not : IsDrawingOf
     (arranged Dynamic 27 (rows_of ascii_full (("aaaaaaa bbbbb" ∷ "aaaaaaa bbbbb" ∷ []) ∷ []))) (texts
     ("+---------+---------------+"
