@@ -212,7 +212,7 @@ fn run(rt: &HostRuntime, table: &mut Table, new_table: &mut Table) -> anyhow::Re
     tables::run(rt, table, new_table)
 }
 
-// fills the table that takes the place of one which an example has, but doesn't make
+// fills a table for examples that use one without making it
 fn fill(table: &mut Table) -> Result<()> {
     table
         .set_header(["Bike", "Place", "Since"])?

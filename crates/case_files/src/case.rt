@@ -1,4 +1,4 @@
-//! One case: what is wanted of its table, and what the table gives.
+//! One case: the wanted lines of its table, and the lines that the table gives.
 
 use crate::fault::{Fault, Result};
 use crate::words::text;
@@ -8,13 +8,13 @@ use std::alloc::Global;
 #[derive(Drop)]
 pub struct Case {
     alloc: Global,
-    /// The name; none before a case begins.
+    /// The name, which is empty before a case begins.
     pub name: String,
-    /// The lines that are wanted, after the kind of each expectation.
+    /// The wanted lines, after the kind of each expectation.
     pub wanted: Vec<String>,
     /// The lines that the table gives in their place.
     pub drawn: Vec<String>,
-    /// The first line that can't be read, counted from 1, and why.
+    /// The first line that can't be read, counted from 1, and the reason.
     pub unread: Option<(u64, &'static str)>,
 }
 
@@ -35,12 +35,12 @@ impl Case {
         Ok(self.name.push_str(name)?)
     }
 
-    /// Whether no line was read.
+    /// True if no line was read.
     pub fn is_new(&self) -> bool {
         self.name.is_empty() && self.unread.is_none()
     }
 
-    /// Whether the table gives other lines than the wanted ones.
+    /// True if the table gives other lines than the wanted ones.
     pub fn differs(&self) -> bool {
         self.drawn.as_slice() != self.wanted.as_slice()
     }
@@ -57,13 +57,12 @@ impl Case {
         }
     }
 
-    /// Whether a line asks for nothing, or for nothing any more since an earlier line couldn't be
-    /// read.
+    /// True if a line does nothing: it is empty or a comment, or an earlier line couldn't be read.
     pub fn passes_over(&self, line: &str) -> bool {
         self.unread.is_some() || line.is_empty() || line.starts_with('#')
     }
 
-    /// Keeps what a line came to. Only running out of memory stays an error.
+    /// Keeps the result of a line. Only a lack of memory stays an error.
     pub fn keep(&mut self, line: u64, done: Result<()>) -> Result<()> {
         match done {
             Err(Fault::NotRead(reason)) => {
@@ -74,7 +73,7 @@ impl Case {
         }
     }
 
-    /// Adds the kind of an expectation, which stands before the lines, both wanted and drawn.
+    /// Adds the kind of an expectation, which precedes its lines, both wanted and drawn.
     pub fn expect(&mut self, kind: &str) -> Result<()> {
         self.wanted.push(String::from_str(self.alloc, kind)?)?;
         Ok(self.drawn.push(String::from_str(self.alloc, kind)?)?)

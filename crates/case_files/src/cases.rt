@@ -5,7 +5,7 @@ use crate::trial::{Build, Trial};
 use std::alloc::Global;
 use std::process::ExitCode;
 
-/// The cases of a file: how many came to what, and the one that is being read.
+/// The cases of a file: the number of each result, and the case that is being read.
 #[derive(Drop)]
 pub struct Cases<B: Build> {
     alloc: Global,
@@ -24,7 +24,7 @@ impl<B: Build> Cases<B> {
     }
 
     /// Reads a line: it begins a case, ends it, or belongs to it. A case that ends is tried, and
-    /// what differs is printed.
+    /// its differences are printed.
     pub fn take(&mut self, rt: &impl Print, line: &str) -> anyhow::Result<()> {
         self.tally.lines = self.tally.lines.saturating_add(1);
         match line.strip_prefix("case\t") {
@@ -37,8 +37,8 @@ impl<B: Build> Cases<B> {
         }
     }
 
-    /// Prints how many cases came to what. Failure where a case failed or couldn't be read, or
-    /// where there was none.
+    /// Prints the number of each result. Returns failure if a case failed or couldn't be read, or
+    /// if there was none.
     pub fn finish(&mut self, rt: &impl Print) -> anyhow::Result<ExitCode> {
         self.close(rt)?;
         self.tally.print(rt)?;

@@ -1,16 +1,16 @@
-//! Why a case can't be tried.
+//! Reasons for which a case can't be tried.
 
 use comfy_parts::TableError;
 use std::alloc::{AllocError, AllocFailed};
 use thiserror::Error;
 
-/// Why a case can't be tried.
+/// The reason for which a case can't be tried.
 #[derive(Clone, Copy, Debug, Error)]
 pub enum Fault {
     /// There is no memory; this ends the whole run.
     #[error("out of memory")]
     OutOfMemory,
-    /// A line can't be read: the reason.
+    /// A line can't be read, for this reason.
     #[error("{0}")]
     NotRead(&'static str),
 }
@@ -35,5 +35,5 @@ impl From<TableError> for Fault {
     }
 }
 
-/// A value, or why the case can't be tried.
+/// A value, or the reason for which the case can't be tried.
 pub type Result<T> = std::result::Result<T, Fault>;

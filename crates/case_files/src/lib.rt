@@ -1,5 +1,5 @@
-//! Files of cases: FORMAT.md has their words. A crate says what its lines build, and what is drawn
-//! of it.
+//! Files of cases, whose words are in FORMAT.md. A crate defines what the lines build, and what is
+//! drawn of it.
 #![tactic(auto)]
 
 mod case;

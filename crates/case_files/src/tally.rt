@@ -1,9 +1,9 @@
-//! What is printed of the cases.
+//! The printed results of the cases.
 
 use crate::case::Case;
 use std::io;
 
-/// How many lines were read, and how many cases came to what.
+/// The number of lines that were read, and the number of cases with each result.
 #[derive(Default, Drop)]
 pub struct Tally {
     pub lines: u64,
@@ -13,7 +13,7 @@ pub struct Tally {
 }
 
 impl Tally {
-    /// Counts a case, and prints it where it didn't pass.
+    /// Counts a case, and prints it if it didn't pass.
     pub fn count(&mut self, rt: &impl Print, case: &Case) -> io::Result<()> {
         let name = case.name.as_str();
         if let Some((line, reason)) = case.unread {
@@ -28,12 +28,12 @@ impl Tally {
         Ok(())
     }
 
-    /// Whether there was a case, and every case passed.
+    /// True if there was a case, and every case passed.
     pub fn all_passed(&self) -> bool {
         self.passed > 0 && self.failed == 0 && self.not_read == 0
     }
 
-    /// Prints the counts; that of cases that couldn't be tried stands on a line of its own.
+    /// Prints the counts. The number of cases that couldn't be tried is on a line of its own.
     pub fn print(&self, rt: &impl Print) -> io::Result<()> {
         if self.not_read > 0 {
             println!(rt; "{} not read", self.not_read)?;

@@ -1,27 +1,27 @@
-//! A case, and what its lines build.
+//! A case, and the value that its lines build.
 
 use crate::case::Case;
 use crate::fault::{Fault, Result};
 use crate::words::{first_or_empty, parts};
 use std::alloc::Global;
 
-/// What the lines of a case build.
+/// The value that the lines of a case build.
 pub trait Build: Drop {
-    /// What no line has built yet.
+    /// The value before the first line.
     fn new(alloc: Global) -> Self;
 
-    /// Does what a line asks for by its first word and the words after it.
+    /// Does what a line requests, given its first word and the words after it.
     fn apply(&mut self, first: &str, words: &[&str]) -> Result<()>;
 
-    /// Adds what it gives of one kind, as the lines of an expectation.
+    /// Adds the lines of one kind of expectation, as the value gives them.
     fn draw(&mut self, kind: &str, lines: &mut Vec<String>) -> Result<()>;
 }
 
-/// A case beside what its lines build.
+/// A case, and the value that its lines build.
 #[derive(Drop)]
 pub(crate) struct Trial<B: Build> {
     alloc: Global,
-    // what is wanted, and what is given
+    // the wanted lines, and those that are given
     pub(crate) case: Case,
     built: B,
 }
@@ -36,8 +36,8 @@ impl<B: Build> Trial<B> {
         }
     }
 
-    /// Does what a line asks for, unless an earlier line couldn't be read. Only running out of
-    /// memory is returned as an error.
+    /// Does what a line requests, unless an earlier line couldn't be read. Only a lack of memory is
+    /// returned as an error.
     pub(crate) fn take(&mut self, number: u64, line: &str) -> Result<()> {
         if self.case.passes_over(line) {
             return Ok(());

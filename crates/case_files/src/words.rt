@@ -3,7 +3,7 @@
 use crate::fault::{Fault, Result};
 use std::alloc::Global;
 
-/// The text that a word stands for, its escapes resolved.
+/// The text for which a word stands, with its escapes resolved.
 pub fn text(alloc: Global, word: &str) -> Result<String> {
     let mut text = String::new(alloc);
     let mut is_as_written = true;
@@ -13,14 +13,14 @@ pub fn text(alloc: Global, word: &str) -> Result<String> {
         } else {
             push_escaped(&mut text, part)?;
         }
-        // no part between two backslashes: both stand for one, and what is behind them is as it is
-        // written
+        // an empty part between two backslashes: both stand for one, and the part after them is as
+        // it is written
         is_as_written = !is_as_written && part.is_empty();
     }
     Ok(text)
 }
 
-/// The parts of a text between which there is this character.
+/// The parts of a text between these characters.
 pub fn parts<'a>(alloc: Global, text: &'a str, separator: char) -> Result<Vec<&'a str>> {
     let mut parts = Vec::new(alloc);
     for part in text.split(separator) {
@@ -45,7 +45,7 @@ pub fn push_lines(alloc: Global, lines: &mut Vec<String>, text: &str) -> Result<
     Ok(())
 }
 
-// adds what stands behind a backslash
+// adds the part after a backslash
 fn push_escaped(text: &mut String, part: &str) -> Result<()> {
     let mut behind = part.chars();
     let meant = match behind.next() {
@@ -61,7 +61,7 @@ fn push_escaped(text: &mut String, part: &str) -> Result<()> {
     Ok(text.push_str(behind.as_str())?)
 }
 
-// adds the character whose number stands in braces, and what is behind them
+// adds the character whose number is in braces, and the text after them
 fn push_numbered(text: &mut String, part: &str) -> Result<()> {
     let Some((digits, behind)) = part.split_once('}') else {
         return Err(Fault::NotRead("an escape is cut off"));

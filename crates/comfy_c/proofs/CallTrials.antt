@@ -1,5 +1,4 @@
--- Examples of what is made of a buffer, of the arguments that bytes stand for, and of the settings of
--- rows.
+-- Examples of buffers after a call, of the arguments for which bytes stand, and of the settings of rows.
 use Rattle.std.proofs.Common.{◌≡◌, ℕ, [], ◌∷◌, ◌++◌, None, Option, Some, codes, false, refl, true}
 use Rattle.std.proofs.lemmas.List.Elements.{All-cons, All-nil}
 use Rattle.comfy_parts.specs.Text.{HasNo}
@@ -59,11 +58,11 @@ no_arguments = record { arguments = []; behind_name = refl; hold_no_end = All-ni
 abbrev no_color : ColorNumbers
 no_color = record { kind = 0; number = 0; red = 0; green = 0; blue = 0 }
 
--- a look with an alignment alone
+-- a look with only an alignment
 abbrev at : ℕ → LookNumbers
 at side = record { alignment = side; attributes = 0; foreground = no_color; background = no_color }
 
--- what it stands for
+-- the settings for this look
 abbrev own : Option CellAlignment → CellSettingsValue
 own side = record { alignment = side; foreground = None; background = None; attributes = [] }
 
@@ -72,11 +71,11 @@ below_a_header : rows_settings true (2 ∷ 1 ∷ []) (at 0 ∷ at 1 ∷ at 2 ∷
     ≡ (record { max_height = None; cells = own None ∷ own (Some Left) ∷ [] }) ∷ (record { max_height = Some 7; cells = own (Some Right) ∷ [] }) ∷ []
 below_a_header = refl
 
--- without a header nothing is set for it
+-- without a header its settings are unset
 without_header : rows_settings false (1 ∷ []) [] (3 ∷ []) ≡ unset_row ∷ (record { max_height = Some 3; cells = [] }) ∷ []
 without_header = refl
 
--- and without looks and heights nothing is set
+-- without looks and heights nothing is set
 without_looks : rows_settings false (1 ∷ []) [] [] ≡ []
 without_looks = refl
 
@@ -84,7 +83,7 @@ bold_and_red : look_settings (record { alignment = 9; attributes = 2; foreground
     ≡ record { alignment = None; foreground = Some (AnsiValue 9); background = None; attributes = Bold ∷ [] }
 bold_and_red = refl
 
--- a column in the middle of at least three
+-- a centred column of at least three terminal columns
 middle : settings_for ((record { left_padding = 1; right_padding = 1; side = 4; least = 3; greatest = 0 }) ∷ []) ≡ (record { padding = (1, 1); least = Some 3; greatest = None; is_centered = true }) ∷ []
 middle = refl
 

@@ -19,13 +19,13 @@ no_row = record { cells = 0; max_height = 0 }
 
 -- ---- parts
 
--- the part from a start is the front of what is left there
+-- the part from a start is a prefix of the rest from there
 pub part : {A : Type 0} (xs : List A) (start n : ℕ) → take n (drop start xs) ≡ slice_range xs start (start + n)
 part xs start n = ap (λ (k : ℕ). take k (drop start xs)) (omega arith)
 
 -- ---- attributes
 
--- one attribute more, by the last bit
+-- one attribute more, for the last bit
 pub attributes_more : (all : List Attribute) (i : ℕ) (d : Attribute) → i < length all → (bits : ℕ) (made : List Attribute)
     → made ++ attributes_by (drop i all) bits ≡ (made ++ cond (bits % 2 == 1) (get_or all i d ∷ []) []) ++ attributes_by (drop (i + 1) all) (bits / 2)
 attributes_more all i d below bits made =
@@ -52,7 +52,7 @@ one_set all i d below =
 
 -- ---- cells
 
--- the texts that references are to
+-- the texts behind references
 abbrev pub lent : List (Bor Text) → List Text
 lent texts = map (λ (text : Bor Text). text.now) texts
 
@@ -62,7 +62,7 @@ cells_paired [] texts = refl
 cells_paired (cell ∷ cells) [] = refl
 cells_paired (cell ∷ cells) (text ∷ texts) = ap (λ xs. cell_with cell text.now ∷ xs) (cells_paired cells texts)
 
--- there are as many of them
+-- there are as many cells as numbers
 pub as_many : (cells : List CellNumbers) (texts : List Text) → length texts ≡ length cells → length (cells_by cells texts) ≡ length cells
 as_many [] texts same = refl
 as_many (cell ∷ cells) [] same = absurd (omega (arith, same))
@@ -70,14 +70,14 @@ as_many (cell ∷ cells) (text ∷ texts) same = ap suc (as_many cells texts (om
 
 -- ---- rows
 
--- the first of some cells are those of the first numbers and texts
+-- the first cells are those of the first numbers and texts
 pub taken : (n : ℕ) (cells : List CellNumbers) (texts : List (Bor Text)) → take n (cells_by cells (lent texts)) ≡ cells_by (take n cells) (lent (take n texts))
 taken zero cells texts = refl
 taken (suc n) [] texts = refl
 taken (suc n) (cell ∷ cells) [] = refl
 taken (suc n) (cell ∷ cells) (text ∷ texts) = ap (λ xs. cell_with cell text.now ∷ xs) (taken n cells texts)
 
--- and the others are those of the others
+-- the other cells are those of the other numbers and texts
 pub dropped : (n : ℕ) (cells : List CellNumbers) (texts : List (Bor Text)) → drop n (cells_by cells (lent texts)) ≡ cells_by (drop n cells) (lent (drop n texts))
 dropped zero cells texts = refl
 dropped (suc n) [] texts = refl
@@ -92,7 +92,7 @@ module _ (all : List RowNumbers) (i : ℕ) (below : i < length all) where
   abbrev own : RowNumbers
   own = get_or all i no_row
 
-  -- one row more, whose cells are the first of those that are left from a start
+  -- one row more, whose cells are the first of the rest from a start
   module _ (cells : List CellNumbers) (texts : List (Bor Text)) (start : ℕ) where
     abbrev mine : RowValue
     mine = row_with own (cells_by (slice_range cells start (start + own.cells)) (lent (slice_range texts start (start + own.cells))))

@@ -9,7 +9,7 @@ use Rattle.comfy_c.specs.declared.cells_rows.RowNumbers.{RowNumbers}
 use Rattle.comfy_c.specs.declared.cells_settings.CellsSettings.{CellsSettings}
 
 module _ (settings : CellsSettings) (cells : List CellValue) where
-  -- the first row is
+  -- the first row is the header
   module _ (row : RowNumbers) (rows : List RowNumbers) (has : (settings.has_header == 0) ≡ false) where
     first_above : header_among settings (rows_with (row ∷ rows) cells) ≡ Some (row_with row (take row.cells cells))
     first_above = ap (λ (none : Bool). if not none then Some (row_with row (take row.cells cells)) else None) has

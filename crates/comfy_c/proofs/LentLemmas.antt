@@ -30,7 +30,7 @@ pub cells_in : (cells : List RowCell) (start n : ℕ) → map cell_of (slice_ran
 cells_in cells start n =
     ap (map cell_of) (sym (part cells start n)) ∙ sym (take-map cell_of n (drop start cells)) ∙ ap (take n) (sym (drop-map cell_of start cells))
 
--- the first row that is left, whose cells begin at a start, and the others
+-- the next row, whose cells begin at a start, and the rows after it
 pub next_row : (all : List RowNumbers) (i : ℕ) → i < length all → (cells : List CellValue) (start : ℕ)
     → rows_with (drop i all) (drop start cells)
     ≡ row_with (get_or all i no_row) (take (get_or all i no_row).cells (drop start cells)) ∷ rows_with (drop (i + 1) all) (drop (start + (get_or all i no_row).cells) cells)
@@ -58,7 +58,7 @@ module _ (table : TableValue) (infos : List ColumnInfo) where
   first_alone true is_last x xs = grind (arith, append_assoc, append-nil)
   first_alone false is_last x xs = grind (arith, append_assoc, append-nil)
 
-  -- the lines of a row, and those of the others
+  -- the lines of a row, and those of the other rows
   pub row_drawn : (is_first is_last : Bool) (x : RowValue) (xs : List RowValue)
       → terminated_text_of (part_of_drawing table infos is_first false (x ∷ [])) ++ terminated_text_of (part_of_drawing table infos false is_last xs) ≡ terminated_text_of (part_of_drawing table infos is_first is_last (x ∷ xs))
   row_drawn is_first is_last x xs =
@@ -71,12 +71,12 @@ given_same : (f : CellValue → ℕ) (t : TableValue) (cell : Option CellValue) 
 given_same f t None = refl
 given_same f t (Some cell) = refl
 
--- the rows of a table change nothing of what one cell gives
+-- the rows of a table don't change the measure of one cell
 measured_same : (f : CellValue → ℕ) (t : TableValue) (rows : List RowValue) (cell : Option CellValue) → measured_at t f cell ≡ measured_at (with_other_rows rows t) f cell
 measured_same f t rows None = refl
 measured_same f t rows (Some cell) = refl
 
--- the greatest of the header and of all rows
+-- the greatest value of the header and of all rows
 below_header : (f : CellValue → ℕ) (t : TableValue) (rows : List RowValue) (i : ℕ) → t.rows ≡ []
     → max (greatest (map (of_measured t f) (cells_with_header t i))) (greatest_at t f rows i)
     ≡ greatest (map (of_measured (with_other_rows rows t) f) (cells_with_header (with_other_rows rows t) i))
@@ -89,14 +89,14 @@ below_header f t rows i none =
     λ j. greatest (map (λ (cell : Option CellValue). (given_same f all cell ∙ sym (measured_same f t rows cell)) j) (cells_at rows i)) in
     omega (arith, same, empty, each)
 
--- content widths
+-- the content width of a column is the greatest of its header's and its rows'
 pub width_below : (t : TableValue) (rows : List RowValue) (i : ℕ) → t.rows ≡ [] → max (column_content_width t i) (greatest_at t cell_content_width rows i) ≡ column_content_width (with_other_rows rows t) i
 width_below t rows i none =
     ap (λ n. max n (greatest_at t cell_content_width rows i)) (greatest_measured t cell_content_width i)
     ∙ below_header cell_content_width t rows i none
     ∙ sym (greatest_measured (with_other_rows rows t) cell_content_width i)
 
--- longest lines
+-- the same for the longest line of a column
 pub longest_below : (t : TableValue) (rows : List RowValue) (info : ColumnInfo) (i : ℕ) → t.rows ≡ []
     → max (longest_line t i info.delimiter info.content_width) (greatest_at t (cell_longest_line t info) rows i) ≡ longest_line (with_other_rows rows t) i info.delimiter info.content_width
 longest_below t rows info i none =
@@ -112,7 +112,7 @@ cell_there [] k d below = absurd (omega (arith, below))
 cell_there (cell ∷ cells) zero d below = refl
 cell_there (cell ∷ cells) (suc k) d below = cell_there cells k d (omega (arith, below))
 
--- what a width becomes with one cell more
+-- a width after one more cell
 pub one_wider : (had : ℕ) (f : ℕ → ℕ) (i k : ℕ) → max (max had (if nat_lt i k then f i else 0)) (if i == k then f k else 0) ≡ max had (if nat_lt i (k + 1) then f i else 0)
 one_wider had f i k = ⊎_elim (λ before. grind (arith, nat_tests, before)) (λ after. by_test (i == k) refl after) (cases_lt i k)
   where
@@ -143,6 +143,6 @@ all_cells f cells n i none all = by_test (nat_lt i n) refl
         let past : length cells ≤ i = grind (arith, nat_tests, is, all) in
         sym (ap f (slice_get_past cells i past) ∙ none)
 
--- cells that are listed, and their greatest height, are their row
+-- the listed cells with their greatest height are their row
 pub listed_row : (numbers : RowNumbers) (cells : List CellValue) → listed_with cells (height_of numbers.max_height) ≡ row_with numbers cells
 listed_row numbers cells = ap (λ (height : Option ℕ). record { cells = cells; max_height = height }) (high numbers.max_height)

@@ -1,4 +1,4 @@
--- Bytes of a table of rows that no caller in C is promised.
+-- Bytes of a table of rows that break a promise to a caller in C.
 use Rattle.std.proofs.Common.{◌≡◌, ◌==◌, ◌∙◌, ◌^◌, ◌-◌, ℕ, Bool, false, true, List, [], ◌∷◌, ◌++◌, None, Option, Some, append-nil, ap, arith, codes, inl, refl, reverse, slice_index_or, subst, sym}
 use Rattle.std.specs.Fmt.{digits}
 use Rattle.std.specs.List.{All, slice_split}
@@ -51,7 +51,7 @@ no_content_line = record { left = 0; junction = 0; right = 0 }
 abbrev no_lines : FrameNumbers
 no_lines = record { top_border = no_line; header_lines = no_content_line; header_separator = no_line; content_lines = no_content_line; row_separator = no_line; bottom_border = no_line }
 
--- under this width, and with as many rows
+-- settings with this width, and this limit of rows
 abbrev settings : ℕ → ℕ → RowsSettings
 settings width limit =
     record {
@@ -71,7 +71,7 @@ settings width limit =
       frame = no_lines;
     }
 
--- no frame of one's own is asked for
+-- the frame isn't the caller's own
 no_own : (width limit : ℕ) → ¬ ((settings width limit).style ≡ own_number)
 no_own width limit own = cc own
 
@@ -141,19 +141,19 @@ two_lines first second (x ∷ y ∷ []) is = cc is
 two_lines first second (x ∷ y ∷ z ∷ []) is = absurd (cc is)
 two_lines first second (x ∷ y ∷ z ∷ t ∷ more) is = absurd (cc is)
 
--- a text without ESC shows itself
+-- a text without ESC is its own visible text
 shows_itself : {text shown : Text} → Shows text shown → HasNo 0x1B text → shown ≡ text
 shows_itself nothing none = refl
 shows_itself (byte b text shown clear rest) none = ap (λ (t : Text). b ∷ t) (shows_itself rest (or_parts (b == 0x1B) _ none).1)
 shows_itself (sequence code text shown passes rest) none = absurd (cc none)
 
--- so it shows the terminal columns that it takes
+-- it shows the terminal columns that it takes
 shown_columns : (n : ℕ) (line : Text) → HasNo 0x1B line → ShowsColumns n line → n ≡ measure line
 shown_columns n line clear shows = sym shows.2 ∙ ap measure (shows_itself shows.1 clear)
 
 -- ---- bytes that don't show them
 
--- no text
+-- not UTF-8
 -- false: comfy_c::drawn_rows
 no_text : ¬ (Drawn no_width all (0xFF ∷ []))
 unfolding chars is_utf8
@@ -175,7 +175,7 @@ three_columns : measure (codes " b ") ≡ 3
 unfolding wrapping encode
 three_columns = refl
 
--- a line that is a terminal column short
+-- a line that is one terminal column too short
 uneven : ¬ (Drawn no_width all (codes " a\n b \n"))
 uneven is =
     let kept = subst (λ (layout : Layout). AreStraightLines layout the_rows (codes " a\n b \n")) (is_asked no_width all refl (codes " a\n b \n") is) ((is.keep refl).straight (harmless no_width all) (narrow no_width all)) (record { unmarked = refl; unkept = refl }) (inl (inl (inl are_narrow))) in
@@ -189,7 +189,7 @@ ten : measure (codes "0123456789") ≡ 10
 unfolding wrapping encode
 ten = refl
 
--- a line of ten terminal columns, where the width is eight
+-- a line of ten terminal columns under a width of eight
 too_wide : ¬ (Drawn 8 all (codes "0123456789\n"))
 too_wide is =
     let P = KeepsTo 8 (frame_room (framed_columns_in (the_layout 8 all) the_rows)) false in
@@ -199,7 +199,7 @@ too_wide is =
     let wide = shown_columns line.columns (codes "0123456789") refl line.shows in
     absurd (omega (arith, line.within, wide, ten))
 
--- a line that counts three rows, but there are two
+-- a line that counts three rows of two
 three_rows : ¬ (Drawn no_width 1 (codes " a \n1 of 3 rows\n"))
 unfolding digits
 three_rows is =
@@ -209,7 +209,7 @@ three_rows is =
     let letter : ◌≡◌ {A = ℕ} 0x33 0x32 = ap (λ (t : Text). slice_index_or t 6 0) (ap reverse made ∙ reverse-append noted.drawn (note_for Row false (Some 1) (Some 2))) in
     absurd (omega (arith, letter))
 
--- nor a line that calls them records
+-- a line that calls rows records
 called_records : ¬ (Drawn no_width 1 (codes " a \n1 of 2 records\n"))
 unfolding digits
 called_records is =
@@ -230,7 +230,7 @@ Padded limit bytes = ShowRows (codes "ab") (1 ∷ 1 ∷ []) (1 ∷ 1 ∷ []) [] 
 padded_layout : (limit : ℕ) → layout_for (settings no_width limit) [] [] (wide_column ∷ []) the_rows ≡ Some (the_layout no_width limit) → (bytes : Text) (is : Padded limit bytes) → is.layout ≡ the_layout no_width limit
 padded_layout limit asked bytes is = same_Some _ _ (sym is.is_layout ∙ asked)
 
--- a line that counts three rows, but there are two
+-- a line that counts three rows of two
 padded_three_rows : ¬ (Padded 1 (codes "  a  \n1 of 3 rows\n"))
 unfolding digits
 padded_three_rows is =
@@ -241,7 +241,7 @@ padded_three_rows is =
     let letter : ◌≡◌ {A = ℕ} 0x33 0x32 = ap (λ (t : Text). slice_index_or t 6 0) (ap reverse made ∙ reverse-append (terminated_text_of kept.lines) (note_for Row false (Some 1) (Some 2))) in
     absurd (omega (arith, letter))
 
--- nor a line that calls them records
+-- a line that calls rows records
 padded_called_records : ¬ (Padded 1 (codes "  a  \n1 of 2 records\n"))
 unfolding digits
 padded_called_records is =

@@ -1,4 +1,4 @@
--- Bytes that no caller in C is promised.
+-- Bytes that break a promise to a caller in C.
 use Rattle.std.proofs.Common.{◌≡◌, ◌∙◌, ◌^◌, ◌≤◌, ◌-◌, ◌+◌, ℕ, None, List, [], ◌∷◌, ◌++◌, false, true, ap, ap₂, append-nil, arith, codes, inl, inr, refl, subst, suc, sym, zero}
 use Rattle.std.specs.Prelude.{slice_index}
 use Rattle.std.specs.Str.{chars, is_utf8}
@@ -72,13 +72,13 @@ Shows bytes = ShowTable [] [] [] columns [] settings bytes
 abbrev the_table : TableValue
 the_table = table_with [] columns [] settings (own_style frame) Dynamic
 
--- the numbers describe it
+-- the numbers describe this table
 described_is : (table : TableValue) → IsDescribed [] [] [] columns [] settings table → table ≡ the_table
 described_is table is =
     is.value
     ∙ ap₂ (table_with [] columns [] settings) (sym (same_Some _ _ is.is_style)) (sym (same_Some _ _ is.is_arrangement))
 
--- its one line, of at most three characters
+-- the table has one line, of at most three characters
 pub record IsTheLine (lines : List Text) : Type 0 where
   pub w : ℕ
   pub are : lines ≡ repeat w (codes "=") ∷ []
@@ -115,12 +115,12 @@ line_of bytes is =
     let headline = subst (λ (table : TableValue). IsHeadline table is.lines) (described_is is.table is.described) is.keep.headline in
     line_of_plain is.lines (subst (IsPlainDrawing the_table) (sym (headline.unstyled refl refl)) headline.is_plain)
 
--- in this form each line has a line feed behind it
+-- in this form each line has a line feed after it
 terminated : (lines : List Text) (bytes : Text) → AreWritten 0 lines bytes → bytes ≡ terminated_text_of lines
 terminated lines bytes (inl told) = told.1
 terminated lines bytes (inr told) = absurd (omega (arith, told.0))
 
--- the line, with a line feed behind it
+-- the line, with a line feed after it
 line_read : (line : Text) (is : Shows (line ++ 0x0A ∷ [])) → (w : ℕ) × (line ≡ repeat w (codes "=")) × (count line ≤ 3)
 line_read line is =
     let own = line_of (line ++ 0x0A ∷ []) is in
@@ -130,12 +130,12 @@ line_read line is =
 -- ---- bytes that don't show it
 
 -- false: comfy_c::drawn_cells
--- no text
+-- not UTF-8
 no_text : ¬ (Shows (0xFF ∷ []))
 unfolding chars is_utf8
 no_text is = let wrong : false ≡ true = is_utf8-from_IsUtf8 (0xFF ∷ []) is.are_text in cc wrong
 
--- no line feed behind the line
+-- no line feed after the line
 no_line_feed : ¬ (Shows (codes "==="))
 no_line_feed is =
     let own = line_of (codes "===") is in
@@ -151,7 +151,7 @@ another_line is = let own = line_read (codes "xyz") is in begins own.0 own.1
     begins zero same = cc same
     begins (suc w) same = let wrong : 0x78 ≡ 0x3D = ap (λ (line : Text). slice_index line 0) same in absurd (omega (arith, wrong))
 
--- a line of five characters, where the width is three
+-- a line of five characters under a width of three
 five : count (codes "=====") ≡ 5
 unfolding chars
 five = refl

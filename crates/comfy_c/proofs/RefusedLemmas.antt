@@ -1,4 +1,4 @@
--- Without a style, lines between rows and an expansion that have a meaning there is no layout.
+-- Without a known style, known lines between rows and a known expansion there is no layout.
 use Rattle.std.proofs.Common.{◌≡◌, ℕ, Bool, true, false, List, Option, Some, None, is_none, refl, ap, ◌∙◌, slice_get}
 use Rattle.std.specs.Prelude.{if◌then◌else◌}
 use Rattle.comfy_parts.specs.Text.{Text}

@@ -1,4 +1,4 @@
--- What is drawn of rows is straight, and keeps to a width.
+-- The drawing of rows is straight, and keeps to a width.
 use Rattle.std.proofs.Common.{◌⊎◌, ◌≡◌, ◌≤◌, ◌<◌, ◌==◌, ◌&&◌, ◌||◌, ℕ, zero, suc, Bool, true, false, not, List, [], ◌∷◌, ◌++◌, Option, Some, None, inl, inr, length, map, option_map, unwrap_or, refl, sym, ap, ap₂, ◌∙◌, subst, arith, drop, eqb-true, take, slice_get}
 use Rattle.std.specs.List.{All, list_all, list_any, range_with_len}
 use Rattle.std.specs.Prelude.{if◌then◌else◌}
@@ -62,7 +62,7 @@ use Rattle.comfy_c.specs.declared.rows_settings.RowsSettings.{RowsSettings}
 -- ---- styles
 
 module _ (p : TableStyle → Bool) where
-  -- each style of a table passes, so that at a position does
+  -- the style at a position passes if each style of the table does
   style_passes : (table : List (Text × TableStyle)) → list_all (λ (entry : Text × TableStyle). p entry.1) table ≡ true → (i : ℕ) (style : TableStyle) → option_map (λ (entry : Text × TableStyle). entry.1) (slice_get table i) ≡ Some style → p style ≡ true
   style_passes [] all i style is = absurd (cc is)
   style_passes (entry ∷ table) all zero style is =
@@ -85,7 +85,7 @@ preset_is_one_column position style is = one_column_characters style (asked_pass
 preset_is_harmless : (position : ℕ) (style : TableStyle) → style_at position ≡ Some style → IsHarmlessStyle style
 preset_is_harmless position style is = not-true _ (asked_passes (λ s. not (list_any (λ (c : Option ℕ). is_replaced (unwrap_or c 0x20)) (style_characters s))) refl refl position style is)
 
--- what holds of each preset and of a frame of one's own holds of the style that is asked for
+-- a property of each preset, and of the caller's own frame, is one of the style that is used
 module _ (settings : RowsSettings) (P : TableStyle → Type 0) (of_preset : (position : ℕ) (style : TableStyle) → style_at position ≡ Some style → P style) (of_own : settings.style ≡ own_number → P (own_style settings.frame)) where
   of_asked : (style : TableStyle) → style_for settings.style settings.frame ≡ Some style → P style
   of_asked style is = by_number (settings.style == own_number) refl is
@@ -102,7 +102,7 @@ look_style settings (Some style) (Some lines) None look is = absurd (cc is)
 look_style settings (Some style) None expansion look is = absurd (cc is)
 look_style settings None lines expansion look is = absurd (cc is)
 
--- what a layout has of settings and columns
+-- the parts of a layout that come from settings and columns
 record IsAsked (settings : RowsSettings) (asked : List RowsColumn) (rows : List (List Text)) (layout : Layout) : Type 0 where
   pub look : look_for settings ≡ Some layout.look
   pub columns : columns_for layout.selection asked rows ≡ Some layout.columns
@@ -169,7 +169,7 @@ not_empty : (n : ℕ) → (suc n == 0) ≡ false
 not_empty n = grind arith
 
 module _ (settings : RowsSettings) (asked : List RowsColumn) (layout : Layout) (output : Text) where
-  -- what is drawn of some rows
+  -- the drawing of some rows
   module _ (rows : List (List Text)) (own : IsAsked settings asked rows layout) (texts : All AllText rows) (some : (length rows == 0) ≡ false) (made : RendersRecords (Some (count_below layout.selection rows)) layout rows output) where
     abbrev known : Option ℕ
     known = Some (count_below layout.selection rows)
@@ -223,11 +223,11 @@ module _ (settings : RowsSettings) (asked : List RowsColumn) (layout : Layout) (
         fits (inl each) = inl each
         fits (inr (two, has_room)) = inr (two_fit known layout rows is.unkept is.unmarked texts two has_room)
 
-  -- no rows are counted
+  -- an empty list of rows has the count 0
   no_count : IsCountOf layout [] (Some 0)
   no_count = ap (λ (below : List (List Text)). Some (length below)) (sym (no_records layout.selection.has_header).1)
 
-  -- of no rows nothing is drawn
+  -- without rows nothing is drawn
   none : (P : Text → Type 0) → output ≡ [] → EachRowsLine P layout [] output
   none P empty =
       subst (EachRowsLine P layout []) (sym empty)
@@ -250,7 +250,7 @@ module _ (settings : RowsSettings) (asked : List RowsColumn) (layout : Layout) (
         width = some_kept (row ∷ rows) own texts some made;
       }
 
--- nothing but sides of columns is set
+-- nothing is set except sides of columns
 none_set : (has_header : Bool) (counts : List ℕ) (looks : List LookNumbers) (heights : List ℕ) (columns : List RowsColumn) → has_sides_alone looks heights columns ≡ true → table_settings has_header counts looks heights columns ≡ no_settings
 none_set has_header counts looks heights columns alone =
     let both = and_parts (length looks == 0) ((length heights == 0) && are_unset columns) alone in
@@ -262,7 +262,7 @@ none_set has_header counts looks heights columns alone =
 
 -- ---- tables of rows with settings
 
--- a look has the expansion and the kind that settings ask for
+-- a look has the expansion and the kind of the settings
 look_kind : (settings : RowsSettings) (style : Option TableStyle) (lines : Option RowSeparators) (expansion : Option Expansion) (look : Look) → look_by settings style lines expansion ≡ Some look → (expansion ≡ Some look.expansion) × (look.is_markdown ≡ is_set settings.is_markdown)
 look_kind settings (Some style) (Some lines) (Some expansion) look is =
     let same = same_Some _ look is in (ap (λ (l : Look). Some l.expansion) same, sym (ap (λ (l : Look). l.is_markdown) same))
@@ -306,7 +306,7 @@ module _ (law : (table : TableValue) (lines : List Text) → IsTableDrawing tabl
       (subst (λ (content : SelectedValue). RendersStyledTable own false layout.look (with_centers own.columns content) made.text) (sym made.is_content)
       (subst (λ (b : Bool). RendersStyledTable own b layout.look (with_centers own.columns made.content) made.text) expanded drawn.drawn))
 
--- so a drawing of rows shows them
+-- a drawing of rows keeps these promises
 pub shows_rows : ((table : TableValue) (lines : List Text) → IsTableDrawing table lines → KeepsPromises table lines) → (texts : Text) (lengths counts : List ℕ) (looks : List LookNumbers) (heights : List ℕ) (columns : List RowsColumn) (settings : RowsSettings) (bytes : Text)
     → IsRowsDrawing texts lengths counts looks heights columns settings bytes → ShowRows texts lengths counts looks heights columns settings bytes
 shows_rows law texts lengths counts looks heights columns settings bytes is =

@@ -9,7 +9,7 @@ use Rattle.std.proofs.lemmas.Str.{IsUtf8-append, IsUtf8-nil}
 use Rattle.csv_records.proofs.CutLemmas.{place_taken}
 use Rattle.csv_records.specs.CutLists.{cut_by, total}
 
--- what stands behind some parts
+-- the rest after the first parts
 pub behind : {A : Type 0} (n : ℕ) (ns : List ℕ) (xs : List A) → drop (total ns) (drop n xs) ≡ drop (total (n ∷ ns)) xs
 behind n ns xs = drop-drop (total ns) n xs ∙ ap (λ (k : ℕ). drop k xs) (sym (sum_by-cons (λ m. m) n ns))
 
@@ -17,13 +17,13 @@ cut_more : {A : Type 0} (ns : List ℕ) (n : ℕ) (xs : List A) → cut_by (ns +
 cut_more [] n xs = refl
 cut_more (m ∷ ns) n xs = ap (λ ys. take m xs ∷ ys) (cut_more ns n (drop m xs) ∙ ap (λ ys. cut_by ns (drop m xs) ++ take n ys ∷ []) (behind m ns xs))
 
--- in a loop over lengths: one part more, which ends so far from the front
+-- in a loop over lengths: one part more, and the distance of its end from the front
 pub one_cut : {A : Type 0} (ns : List ℕ) (i d : ℕ) → i < length ns → (xs : List A)
     → (cut_by (take (i + 1) ns) xs ≡ cut_by (take i ns) xs ++ take (slice_index_or ns i d) (drop (total (take i ns)) xs) ∷ []) × (total (take (i + 1) ns) ≡ total (take i ns) + slice_index_or ns i d)
 one_cut ns i d below xs =
     (ap (λ (ms : List ℕ). cut_by ms xs) (take_more ns i d below) ∙ cut_more (take i ns) (slice_index_or ns i d) xs, (place_taken ns i d below).1)
 
--- and it is one of all parts
+-- it is one of all parts
 pub in_cut : {A : Type 0} (P : List A → Type 0) (ns : List ℕ) (i d : ℕ) → i < length ns → (xs : List A) → All P (cut_by ns xs) → P (take (slice_index_or ns i d) (drop (total (take i ns)) xs))
 in_cut P [] i d below xs all = absurd (omega (arith, below))
 in_cut P (n ∷ ns) zero d below xs all = All-head P (take n xs) (cut_by ns (drop n xs)) all
@@ -37,7 +37,7 @@ length-cut_by (n ∷ ns) xs = ap suc (length-cut_by ns (drop n xs))
 
 -- ---- parts that are texts
 
--- what consists of them is a text
+-- a block of UTF-8 parts is UTF-8
 pub whole_text : (ns xs : List ℕ) → total ns ≡ length xs → All IsUtf8 (cut_by ns xs) → IsUtf8 xs
 whole_text [] [] add_up all = IsUtf8-nil
 whole_text [] (x ∷ xs) add_up all = absurd (omega (arith, add_up))

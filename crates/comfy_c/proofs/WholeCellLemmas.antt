@@ -1,4 +1,4 @@
--- Rows of cells whose texts are UTF-8 keep what all rows keep.
+-- Rows of cells whose texts are UTF-8 have the properties of all rows.
 use Rattle.std.proofs.Common.{◌≡◌, ◌≤◌, ◌==◌, ◌||◌, ◌-◌, ◌^◌, ◌∷◌, [], ℕ, Bool, true, false, IfSome, List, None, Some, arith, drop, nat_lt, refl, take}
 use Rattle.std.proofs.lemmas.Bool.Decides.{nat_tests}
 use Rattle.std.proofs.lemmas.List.Elements.{All-cons, All-drop, All-head, All-nil, All-tail, All-take}

@@ -1,4 +1,4 @@
--- What numbers and arguments mean that a caller passes, and what is made of its buffer.
+-- The meaning of a caller's numbers and arguments, and the caller's buffer after a call.
 -- Source: this library's own.
 use Rattle.std.specs.Prelude.{◌≡◌, ◌⊎◌, ◌-◌, ◌^◌, ℕ, Bool, not, nat_le, ◌==◌, List, [], ◌∷◌, ◌++◌, All, Option, Some, None, IsUtf8, codes, drop, flat_map, length, slice_index, string_bytes, if◌then◌else◌}
 use Rattle.comfy_parts.specs.Text.{HasNo, Text}
@@ -9,12 +9,12 @@ use Rattle.csv_command.specs.declared.drawing.Refusal.TheVariants.{Arguments, In
 
 -- ---- the buffer
 
--- a buffer with a text at its front, where it has room for all of it; else it is as it was
+-- a buffer with a text at its front if there is room for all of it, and otherwise the same buffer
 abbrev pub with_front : Text → Text → Text
 with_front text buffer =
     if nat_le (length text) (length buffer) then text ++ drop (length text) buffer else buffer
 
--- a text was handed to the caller of which P holds
+-- the caller gets the length of a text with property P, and the text if its buffer has room for it
 pub record IsHanded (P : Text → Type 0) (buffer : Text) (after : Text) (needed : ℕ) : Type 0 where
   pub text : Text
   pub is_so : P text
@@ -23,7 +23,7 @@ pub record IsHanded (P : Text → Type 0) (buffer : Text) (after : Text) (needed
 
 -- ---- settings
 
--- a width up to 65535; any greater number stands for none
+-- a width up to 65535, or `None` for any greater number
 abbrev pub width_of : ℕ → Option ℕ
 width_of width = if nat_le width 65535 then Some width else None
 
@@ -31,7 +31,7 @@ width_of width = if nat_le width 65535 then Some width else None
 abbrev pub is_set : ℕ → Bool
 is_set flag = not (flag == 0)
 
--- a limit, unless it is the greatest number of 64 bits
+-- a limit, or `None` for the greatest number of 64 bits
 abbrev pub limit_of : ℕ → Option ℕ
 limit_of number = if number == 2 ^ 64 - 1 then None else Some number
 
@@ -45,40 +45,40 @@ ended argument = argument ++ 0 ∷ []
 abbrev pub closed : Text → Text
 closed text = if slice_index text (length text - 1) == 0 then text else ended text
 
--- the arguments of a call of `csvtable` that a text stands for: its name, and arguments of which
--- none holds a zero byte; each with its end they are the text, at whose end a zero byte may be
--- missing
+-- The arguments of a call of `csvtable`, for which a text stands: the program's name, and arguments
+-- without zero bytes. With a zero byte after each argument they are the text. The last zero byte of
+-- the text may be missing.
 pub record IsCommandLine (text : Text) (line : List Text) : Type 0 where
   pub arguments : List Text
   pub behind_name : line ≡ codes "csvtable" ∷ arguments
   pub hold_no_end : All (HasNo 0) arguments
   pub are_all : flat_map ended arguments ≡ closed text
 
--- P holds of the arguments that a caller's bytes stand for
+-- P holds for the arguments for which a caller's bytes stand
 pub record IsForArguments (P : List Text → Type 0) (bytes : Text) : Type 0 where
   pub is_text : IsUtf8 bytes
   pub arguments : List Text
   pub are_arguments : IsCommandLine bytes arguments
   pub is_so : P arguments
 
--- the drawing for arguments and an input
+-- `drawing` is the drawing for arguments and an input
 abbrev pub IsCsvDrawing : Text → Text → Text → Type 0
 IsCsvDrawing bytes input drawing =
     IsUtf8 drawing × IsForArguments (λ arguments. IsRendered arguments input drawing) bytes
 
--- the line on an input that can't be drawn as arguments ask
+-- `message` is the line about an input that can't be drawn as the arguments request
 abbrev pub IsInputMessage : Text → Text → Text → Type 0
 IsInputMessage bytes input message =
     IsUtf8 message × IsForArguments (λ arguments. IsSaidOfInput arguments input message) bytes
 
--- the text on arguments that ask for no drawing, or aren't UTF-8
+-- `message` is the text for arguments that request no drawing, or aren't UTF-8
 abbrev pub IsArgumentsMessage : Text → Text → Type 0
 IsArgumentsMessage bytes message =
     IsUtf8 message
     × (IsForArguments (λ arguments. IsSaidOfArguments arguments message) bytes
     ⊎ ¬ (IsUtf8 bytes) × (message ≡ argument_not_utf8))
 
--- why there is no drawing
+-- the reason for a missing drawing
 abbrev pub IsCsvRefusal : Text → Text → Refusal → Type 0
 IsCsvRefusal bytes input (Input message) = IsInputMessage bytes input (string_bytes message)
 IsCsvRefusal bytes input OutOfMemory = Unit {0}

@@ -1,4 +1,4 @@
--- The table that numbers and texts describe, and what is drawn of it.
+-- The table that numbers and texts describe, and its drawing.
 -- Source: this library's own.
 use Rattle.std.specs.Prelude.{◌≡◌, ◌⊎◌, ◌<◌, ◌∷◌, ◌++◌, [], ℕ, false, List, All, Option, Some, None, IsUtf8, decimal, drop, flat_map, map, slice_get, zip, if◌then◌else◌}
 use Rattle.comfy_parts.specs.CellValue.{CellValue, RowValue}
@@ -22,11 +22,11 @@ use Rattle.comfy_c.specs.declared.refusal.DrawRefusal.TheVariants.{Lengths, NotU
 
 -- ---- rows
 
--- how many bytes the texts of cells have
+-- the number of bytes of each cell's text
 abbrev pub lengths_of : List CellNumbers → List ℕ
 lengths_of cells = map (λ (cell : CellNumbers). cell.length) cells
 
--- how many cells rows have
+-- the number of cells of each row
 abbrev pub counts_of : List RowNumbers → List ℕ
 counts_of rows = map (λ (row : RowNumbers). row.cells) rows
 
@@ -34,7 +34,7 @@ counts_of rows = map (λ (row : RowNumbers). row.cells) rows
 abbrev pub cells_by : List CellNumbers → List Text → List CellValue
 cells_by cells texts = map (λ (p : CellNumbers × Text). cell_with p.0 p.1) (zip cells texts)
 
--- cells with the texts of one block
+-- cells with texts that are cut from one block
 abbrev pub cells_with : List CellNumbers → Text → List CellValue
 cells_with cells texts = cells_by cells (cut_by (lengths_of cells) texts)
 
@@ -46,7 +46,7 @@ rows_with rows cells =
 
 -- ---- the table
 
--- the first row, where it is the header
+-- the first row, if it is the header
 abbrev pub header_among : CellsSettings → List RowValue → Option RowValue
 header_among settings rows = if is_set settings.has_header then slice_get rows 0 else None
 
@@ -54,7 +54,7 @@ header_among settings rows = if is_set settings.has_header then slice_get rows 0
 abbrev pub below_header : CellsSettings → List RowValue → List RowValue
 below_header settings rows = if is_set settings.has_header then drop 1 rows else rows
 
--- a table of these, whose width and styles are the caller's: no terminal is asked
+-- a table of these, with the width and the styling that the caller sets; no terminal is consulted
 abbrev pub table_by : Option RowValue → List RowValue → List ColumnNumbers → Text → CellsSettings
     → TableStyle → ContentArrangement → TableValue
 table_by header rows columns indicator settings style arrangement =
@@ -75,13 +75,13 @@ table_by header rows columns indicator settings style arrangement =
       custom_styling = is_set settings.custom_styling;
     }
 
--- of these rows, the first of which may be the header
+-- the same for rows of which the first may be the header
 abbrev pub table_with : List RowValue → List ColumnNumbers → Text → CellsSettings → TableStyle
     → ContentArrangement → TableValue
 table_with rows columns indicator settings =
     table_by (header_among settings rows) (below_header settings rows) columns indicator settings
 
--- the table that numbers and texts describe: these add up, and style and arrangement are known
+-- numbers and texts describe this table: they add up, and style and arrangement are known
 pub record IsDescribed (texts : Text) (cells : List CellNumbers) (rows : List RowNumbers)
     (columns : List ColumnNumbers) (indicator : Text) (settings : CellsSettings)
     (table : TableValue) : Type 0 where
@@ -96,24 +96,24 @@ pub record IsDescribed (texts : Text) (cells : List CellNumbers) (rows : List Ro
 
 -- ---- drawings
 
--- numbers in decimal, each with a line feed behind it
+-- numbers in decimal, each with a line feed after it
 abbrev pub listed : List ℕ → Text
 listed numbers = flat_map (λ number. decimal number ++ 0x0A ∷ []) numbers
 
--- lines as they are written: each with a line feed behind it, or without the white space at their
--- ends and with line feeds between them
+-- lines in one of two forms: each with a line feed after it, or with line feeds between them and
+-- without the white space at their ends
 abbrev pub AreWritten : ℕ → List Text → Text → Type 0
 AreWritten form lines drawing =
     (form ≡ 0) × (drawing ≡ terminated_text_of lines)
     ⊎ (form ≡ 1) × (drawing ≡ trimmed_text_of lines)
 
--- what is asked for of a table: its lines, or the widths of its contents
+-- the requested form of a table: its lines, or the widths of its contents
 abbrev pub IsInForm : ℕ → TableValue → Text → Type 0
 IsInForm form table drawing =
     ((lines : List Text) × IsTableDrawing table lines × AreWritten form lines drawing)
     ⊎ (form ≡ 2) × (drawing ≡ listed (max_content_widths table))
 
--- what is asked for of the table that numbers and texts describe
+-- `drawing` is the requested form of the table that numbers and texts describe
 pub record IsCellsDrawing (texts : Text) (cells : List CellNumbers) (rows : List RowNumbers)
     (columns : List ColumnNumbers) (indicator : Text) (settings : CellsSettings)
     (drawing : Text) : Type 0 where
@@ -124,7 +124,7 @@ pub record IsCellsDrawing (texts : Text) (cells : List CellNumbers) (rows : List
 
 -- ---- refusals
 
--- the lengths aren't those of the texts, or the counts not those of the cells
+-- the lengths aren't those of the texts, or the counts aren't those of the cells
 abbrev pub DoNotAddUp : Text → List CellNumbers → List RowNumbers → Type 0
 DoNotAddUp texts cells rows = ¬ (AddUp texts (lengths_of cells) (counts_of rows))
 
@@ -134,18 +134,18 @@ AreNotTexts texts cells rows indicator =
     AddUp texts (lengths_of cells) (counts_of rows)
     × (¬ (All IsUtf8 (cut_by (lengths_of cells) texts)) ⊎ ¬ (IsUtf8 indicator))
 
--- the form, the style or the arrangement stands for nothing
+-- the form, the style or the arrangement has no meaning
 abbrev pub IsUnknown : CellsSettings → Type 0
 IsUnknown settings =
     (2 < settings.form) ⊎ (style_for settings.style settings.frame ≡ None)
     ⊎ (slice_get arrangements settings.arrangement ≡ None)
 
--- why an indicator is refused: it isn't UTF-8, or memory ran out
+-- the error for an indicator: it isn't UTF-8, or memory ran out
 abbrev pub IsIndicatorRefusal : Text → DrawRefusal → Type 0
 IsIndicatorRefusal indicator refusal =
     (refusal ≡ OutOfMemory) ⊎ (refusal ≡ NotUtf8) × ¬ (IsUtf8 indicator)
 
--- why there is no drawing
+-- the reason for a missing drawing
 abbrev pub IsCellsRefusal : Text → List CellNumbers → List RowNumbers → Text → CellsSettings
     → DrawRefusal → Type 0
 IsCellsRefusal texts cells rows indicator settings Lengths = DoNotAddUp texts cells rows

@@ -1,4 +1,4 @@
--- What the numbers of a frame stand for.
+-- The meaning of the numbers of a frame.
 -- Source: this library's own.
 use Rattle.std.specs.Prelude.{◌-◌, ◌^◌, ◌==◌, ℕ, Option, Some, if◌then◌else◌}
 use Rattle.comfy_parts.specs.Presets.{preset_at}
@@ -28,7 +28,7 @@ content_line_with line =
       right = char_of line.right;
     }
 
--- the style of a caller's own lines
+-- the style of a caller's own frame
 abbrev pub own_style : FrameNumbers → TableStyle
 own_style frame =
     record {
@@ -40,15 +40,15 @@ own_style frame =
       bottom_border = line_with frame.bottom_border;
     }
 
--- a preset by its position; the number after the last position is that of `csvtable`
+-- a preset by its position; the number after the last position means the style of `csvtable`
 abbrev pub style_at : ℕ → Option TableStyle
 style_at position = if position == 13 then Some compact_style else preset_at position
 
--- the number of a caller's own style: the greatest of 32 bits
+-- the number for a caller's own style: the greatest number of 32 bits
 abbrev pub own_number : ℕ
 own_number = 2 ^ 32 - 1
 
--- the style that a number asks for, if it asks for one
+-- the style for a number, if the number has a meaning
 abbrev pub style_for : ℕ → FrameNumbers → Option TableStyle
 style_for number frame =
     if number == own_number then Some (own_style frame) else style_at number

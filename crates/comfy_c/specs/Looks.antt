@@ -1,4 +1,4 @@
--- What the looks and heights of a table of rows mean.
+-- The meaning of the looks and heights of a table of rows.
 -- Source: this library's own.
 use Rattle.std.specs.Prelude.{◌==◌, ◌&&◌, ◌||◌, ◌++◌, ℕ, Bool, List, [], ◌∷◌, None, drop, length, map, slice_index, if◌then◌else◌}
 use Rattle.comfy_table.specs.Styling.{all_attributes}
@@ -9,16 +9,16 @@ use Rattle.comfy_c.specs.Numbers.{alignment_of, attributes_by, color_of, height_
 use Rattle.comfy_c.specs.declared.cells_numbers.LookNumbers.{LookNumbers}
 use Rattle.comfy_c.specs.declared.rows_columns.RowsColumn.{RowsColumn}
 
--- a list has no items, or as many as it has to have
+-- true if a list is empty, or has the number of items that it should have
 abbrev pub is_none_or : ℕ → ℕ → Bool
 is_none_or given count = (given == 0) || (given == count)
 
--- looks are those of all texts, and heights those of all rows; both may be missing
+-- true if there is a look for each text, or none, and a height for each row, or none
 abbrev pub are_each : List LookNumbers → List ℕ → List ℕ → List ℕ → Bool
 are_each looks lengths heights counts =
     is_none_or (length looks) (length lengths) && is_none_or (length heights) (length counts)
 
--- the settings of a text that looks so
+-- the settings of a text with this look
 abbrev pub look_settings : LookNumbers → CellSettingsValue
 look_settings look =
     record {
@@ -28,29 +28,29 @@ look_settings look =
       attributes = attributes_by all_attributes look.attributes;
     }
 
--- those of a row of texts with this greatest height
+-- the settings of a row of texts with these looks and this greatest height
 abbrev pub row_settings : List LookNumbers → ℕ → RowSettingsValue
 row_settings looks height =
     record { max_height = height_of height; cells = map look_settings looks }
 
--- those of rows, of which the first ones have heights
+-- the settings of rows, of which the first ones have heights
 abbrev pub rows_by : List (List LookNumbers) → List ℕ → List RowSettingsValue
 rows_by [] heights = []
 rows_by (looks ∷ rows) heights =
     row_settings looks (slice_index heights 0) ∷ rows_by rows (drop 1 heights)
 
--- a row that has nothing of its own
+-- the settings of a row without any
 abbrev pub unset_row : RowSettingsValue
 unset_row = record { max_height = None; cells = [] }
 
--- those of the header, which may be missing, and of the rows below it
+-- the settings of the header, which may be missing, and of the rows below it
 abbrev pub rows_settings : Bool → List ℕ → List LookNumbers → List ℕ → List RowSettingsValue
 rows_settings has_header counts looks heights =
     if (length looks == 0) && (length heights == 0)
     then []
     else (if has_header then [] else unset_row ∷ []) ++ rows_by (cut_by counts looks) heights
 
--- those of a table of rows with these counts of texts
+-- the settings of a table of rows with these numbers of texts
 abbrev pub table_settings : Bool → List ℕ → List LookNumbers → List ℕ → List RowsColumn
     → SettingsValue
 table_settings has_header counts looks heights columns =

@@ -1,4 +1,4 @@
--- What the numbers of cells, rows and columns stand for.
+-- The meaning of the numbers of cells, rows and columns.
 -- Source: this library's own.
 use Rattle.std.specs.Prelude.{◌||◌, ◌%◌, ◌/◌, ◌==◌, nat_lt, ℕ, List, [], ◌∷◌, Option, Some, None, map, slice_index_or, if◌then◌else◌}
 use Rattle.std.specs.Int.{is_in_range}
@@ -27,8 +27,8 @@ use Rattle.comfy_c.specs.declared.cells_rows.RowNumbers.{RowNumbers}
 
 -- ---- cells
 
--- the character of this number: none for 0, and where it is that of none; the number behind the
--- last character's stands for U+0000
+-- The character with this number. `None` for 0, and for a number that is no character's. The number
+-- after the greatest character's stands for U+0000.
 abbrev pub char_of : ℕ → Option ℕ
 char_of number =
     if number == 0
@@ -39,14 +39,15 @@ char_of number =
     then Some number
     else None
 
--- where texts stand, counted from 0, which says nothing
+-- the alignments of texts, counted from 0, which means none
 abbrev pub alignments : List (Option CellAlignment)
 alignments = None ∷ Some Left ∷ Some Right ∷ Some Center ∷ []
 
 abbrev pub alignment_of : ℕ → Option CellAlignment
 alignment_of number = slice_index_or alignments number None
 
--- the terminal's own colour, one of 256, or one by its parts, counted from 0, which is none
+-- the colours, counted from 0, which means none: the terminal's own one, one of 256, or one by its
+-- red, green and blue parts
 abbrev pub colors_by : ColorNumbers → List (Option Color)
 colors_by color =
     None
@@ -58,7 +59,7 @@ colors_by color =
 abbrev pub color_of : ColorNumbers → Option Color
 color_of color = slice_index_or (colors_by color) color.kind None
 
--- those of these attributes whose bits are set; the first one's is worth 1
+-- the attributes whose bits are set; the first one's bit has the value 1
 abbrev pub attributes_by : List Attribute → ℕ → List Attribute
 attributes_by [] bits = []
 attributes_by (attribute ∷ attributes) bits =
@@ -66,7 +67,7 @@ attributes_by (attribute ∷ attributes) bits =
     then attribute ∷ attributes_by attributes (bits / 2)
     else attributes_by attributes (bits / 2)
 
--- colours and attributes alone
+-- a cell that has only colours and attributes
 abbrev pub look_alone : LookNumbers → CellValue
 look_alone look =
     record (plain_cell []) {
@@ -75,7 +76,7 @@ look_alone look =
       attributes = attributes_by all_attributes look.attributes;
     }
 
--- a cell of a text
+-- a cell with a text
 abbrev pub cell_with : CellNumbers → Text → CellValue
 cell_with numbers text =
     record (plain_cell text) {
@@ -86,7 +87,7 @@ cell_with numbers text =
       attributes = attributes_by all_attributes numbers.look.attributes;
     }
 
--- a row's greatest height, where it isn't 0 nor the greatest number of 64 bits
+-- the greatest height of a row, or `None` for 0 and for the greatest number of 64 bits
 abbrev pub height_of : ℕ → Option ℕ
 height_of number = if number == 0 then None else limit_of number
 
@@ -100,7 +101,7 @@ abbrev pub width_with : WidthNumbers → Width
 width_with numbers =
     if is_set numbers.is_percentage then Percentage numbers.value else Fixed numbers.value
 
--- the constraints by these widths, counted from 0, which is none
+-- the constraints with these widths, counted from 0, which means none
 abbrev pub constraints_by : Width → Width → List (Option ColumnConstraint)
 constraints_by width upper =
     None

@@ -1,4 +1,4 @@
--- What a caller in C is promised of a table of cells.
+-- Promises to a caller in C about a table of cells.
 -- Source: this library's own.
 use Rattle.std.specs.Prelude.{List, IsUtf8}
 use Rattle.comfy_parts.specs.Text.{Text}
@@ -10,8 +10,8 @@ use Rattle.comfy_c.specs.declared.cells_rows.CellNumbers.{CellNumbers}
 use Rattle.comfy_c.specs.declared.cells_rows.RowNumbers.{RowNumbers}
 use Rattle.comfy_c.specs.declared.cells_settings.CellsSettings.{CellsSettings}
 
--- bytes are UTF-8, of lines that keep each promise on those of the table that numbers and texts
--- describe
+-- The bytes are UTF-8. Their lines keep each promise on the lines of the table that numbers and
+-- texts describe.
 pub record ShowTable (texts : Text) (cells : List CellNumbers) (rows : List RowNumbers)
     (columns : List ColumnNumbers) (indicator : Text) (settings : CellsSettings)
     (bytes : Text) : Type 0 where

@@ -1,4 +1,4 @@
--- What a caller in C is promised of a table of rows.
+-- Promises to a caller in C about a table of rows.
 -- Source: this library's own.
 use Rattle.std.specs.Prelude.{◌≡◌, ◌⊎◌, ◌<◌, ◌++◌, ℕ, Bool, false, true, List, Option, Some, None, IsUtf8, length}
 use Rattle.comfy_parts.specs.Columns.{IsOneColumnStyle}
@@ -29,56 +29,56 @@ use Rattle.comfy_c.specs.declared.cells_numbers.LookNumbers.{LookNumbers}
 use Rattle.comfy_c.specs.declared.rows_columns.RowsColumn.{RowsColumn}
 use Rattle.comfy_c.specs.declared.rows_settings.RowsSettings.{RowsSettings}
 
--- a table isn't for Markdown, and no sequences of texts are kept
+-- the table isn't for Markdown, and no sequences of texts are kept
 pub record IsPlainLook (look : Look) : Type 0 where
   pub unmarked : look.is_markdown ≡ false
   pub unkept : look.has_sequences ≡ false
 
--- a frame of the caller's own, if it is asked for, has no control character, and none that turns
+-- a frame of the caller's own, if it is used, has no control character, and no character that turns
 -- the direction of text
 abbrev pub HasHarmlessFrame : RowsSettings → Type 0
 HasHarmlessFrame settings =
     settings.style ≡ own_number → IsHarmlessStyle (own_style settings.frame)
 
--- and each of its characters takes one terminal column
+-- each character of such a frame takes one terminal column
 abbrev pub HasOneColumnFrame : RowsSettings → Type 0
 HasOneColumnFrame settings =
     settings.style ≡ own_number → IsOneColumnStyle (own_style settings.frame)
 
--- all rows below the header are counted
+-- the number of all rows below the header is known
 abbrev pub IsCountOf : Layout → List (List Text) → Option ℕ → Type 0
 IsCountOf layout rows count = count ≡ Some (count_below layout.selection rows)
 
--- P holds of each line that is drawn of rows, but of those that count them
+-- P holds for each line that is drawn of rows, except those that count them
 abbrev pub EachRowsLine : (Text → Type 0) → Layout → List (List Text) → Text → Type 0
 EachRowsLine P layout rows bytes = EachLineFor P (IsCountOf layout rows) layout rows bytes
 
--- no width and no height is kept to, and each text is drawn as it is
+-- there is no width and no height, and each text is drawn as it is
 pub record AreDrawnWhole (layout : Layout) (rows : List (List Text)) : Type 0 where
   pub no_width : layout.look.width ≡ None
   pub uncut : layout.look.max_height ≡ None
   pub plain : EachField IsPlainField rows
 
--- each character of each text takes one terminal column at most, or two, and a width has room for
--- two in each column that a frame is drawn for
+-- Each character of each text takes at most one terminal column. Otherwise each takes at most two,
+-- and the width has room for two in each column of the frame.
 abbrev pub FitTheWidth : Layout → List (List Text) → Type 0
 FitTheWidth layout rows = HaveRoomEach layout.look.width (framed_columns_in layout rows) rows
 
--- each character of each text has room in its column: it fits the width so, or no width is kept to,
--- or the widths that are arranged for the table have room
+-- Each character of each text has room in its column. It fits the width in this way, or there is no
+-- width, or the widths that are arranged for the table have room.
 abbrev pub HaveRoom : Layout → List (List Text) → Type 0
 HaveRoom layout rows =
     (FitTheWidth layout rows ⊎ AreDrawnWhole layout rows)
     ⊎ CharactersFitEachWidth (Some (count_below layout.selection rows)) layout rows
 
--- then all drawn lines show the same number of terminal columns
+-- in this case all drawn lines show the same number of terminal columns
 abbrev pub AreStraightLines : Layout → List (List Text) → Text → Type 0
 AreStraightLines layout rows bytes =
     IsPlainLook layout.look → HaveRoom layout rows
     → (columns : ℕ) × EachRowsLine (ShowsColumns columns) layout rows bytes
 
--- and under a width no drawn line shows more terminal columns than the width or a frame has; or
--- exactly those of the width, if that is filled and has room for the frame
+-- Under a width, each drawn line shows at most as many terminal columns as the width or the frame
+-- has. If the width is filled and has room for the frame, it shows exactly those of the width.
 abbrev pub KeepToWidth : Layout → List (List Text) → Text → Type 0
 KeepToWidth layout rows bytes =
     (width : ℕ) → layout.look.width ≡ Some width → IsPlainLook layout.look
@@ -87,13 +87,13 @@ KeepToWidth layout rows bytes =
     (KeepsTo width (frame_room (framed_columns_in layout rows)) layout.look.fills_width) layout
     rows bytes
 
--- each text is shown in the row and column of its own, if no height cuts rows
+-- each text is shown in its own row and column, if no height cuts rows
 abbrev pub ShowAllTexts : Layout → List (List Text) → Text → Type 0
 ShowAllTexts layout rows bytes =
     IsPlainLook layout.look → layout.look.max_height ≡ None
     → ShowsAllFields (IsCountOf layout rows) layout rows bytes
 
--- the promises on lines that are drawn of rows with nothing set but sides at the left and right
+-- the promises about the lines that are drawn of rows with no settings but left and right sides
 pub record KeepRowPromises (settings : RowsSettings) (layout : Layout) (rows : List (List Text))
     (bytes : Text) : Type 0 where
   pub all : HasHarmlessFrame settings → ShowAllTexts layout rows bytes
@@ -110,8 +110,8 @@ table_by settings layout has_separators rows =
     (with_centers settings.columns
     (selected_of (Some (count_below layout.selection rows)) layout rows)))
 
--- bytes are the lines of that table, which keep each promise on a table's lines, and then the line
--- that counts rows, if not all are drawn
+-- The bytes are the lines of that table, which keep each promise on a table's lines. The line that
+-- counts rows follows if not all are drawn.
 pub record KeepTablePromises (settings : SettingsValue) (layout : Layout) (rows : List (List Text))
     (bytes : Text) : Type 0 where
   pub has_separators : Bool
@@ -122,7 +122,8 @@ pub record KeepTablePromises (settings : SettingsValue) (layout : Layout) (rows 
       ++ note_for layout.selection.noun false layout.selection.limit
       (Some (count_below layout.selection rows))
 
--- bytes are UTF-8, of lines of the table of rows that settings, looks, heights and columns ask for
+-- the bytes are UTF-8, and the lines of the table of rows for these settings, looks, heights and
+-- columns
 pub record ShowRows (texts : Text) (lengths counts : List ℕ) (looks : List LookNumbers)
     (heights : List ℕ) (columns : List RowsColumn) (settings : RowsSettings)
     (bytes : Text) : Type 0 where

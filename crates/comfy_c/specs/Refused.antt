@@ -1,4 +1,4 @@
--- Which setting is refused, as a number.
+-- The number of the setting that is refused.
 -- Source: this library's own.
 use Rattle.std.specs.Prelude.{ℕ, Bool, true, false, List, Option, Some, None, nat_le, slice_get}
 use Rattle.comfy_parts.specs.declared.style.table.ContentArrangement.{ContentArrangement}
@@ -14,7 +14,7 @@ use Rattle.comfy_c.specs.declared.rows_settings.RowsSettings.{RowsSettings}
 use Rattle.csv_tables.specs.declared.options.Expansion.{Expansion}
 use Rattle.csv_tables.specs.declared.options.RowSeparators.{RowSeparators}
 
--- the first of these that is missing or false, counted from 1, or 0
+-- the position of the first of these that is missing or false, counted from 1, or 0 for none
 abbrev pub first_missing : Option TableStyle → Option RowSeparators → Option Expansion → Bool
     → Bool → ℕ
 first_missing None lines expansion sides settings = 1
@@ -24,15 +24,16 @@ first_missing (Some style) (Some lines) (Some expansion) false settings = 4
 first_missing (Some style) (Some lines) (Some expansion) true false = 5
 first_missing (Some style) (Some lines) (Some expansion) true true = 0
 
--- the first of a style, lines between rows, an expansion, the sides of columns, and settings of a
--- table alone that isn't there or may not be there
+-- the first wrong setting of a table of rows: a style, lines between rows, an expansion, the sides
+-- of columns, or settings that only a table with one row for each record may have
 abbrev pub refused_of_rows : RowsSettings → List LookNumbers → List ℕ → List RowsColumn → ℕ
 refused_of_rows settings looks heights columns =
     first_missing (style_for settings.style settings.frame)
     (slice_get separators settings.row_lines) (slice_get expansions settings.expansion)
     (have_sides columns) (can_have settings looks heights columns)
 
--- of a form, a style and an arrangement the first that is missing: 6, 1 or 7, or 0
+-- the first wrong setting of a table of cells, a form, a style or an arrangement: 6, 1 or 7, or 0
+-- for none
 abbrev pub missing_of_cells : Bool → Option TableStyle → Option ContentArrangement → ℕ
 missing_of_cells false style arrangement = 6
 missing_of_cells true None arrangement = 1

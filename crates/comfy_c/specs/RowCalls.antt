@@ -1,4 +1,4 @@
--- What settings and columns of a table of rows mean, and what is drawn of its texts.
+-- The meaning of the settings and columns of a table of rows, and the drawing of its texts.
 -- Source: this library's own.
 use Rattle.std.specs.Prelude.{◌≡◌, ◌==◌, ◌&&◌, ◌||◌, not, ℕ, Bool, true, List, [], ◌∷◌, All, Option, Some, None, IsUtf8, length, slice_get, if◌then◌else◌}
 use Rattle.comfy_parts.specs.Text.{Text}
@@ -27,14 +27,14 @@ use Rattle.csv_tables.specs.declared.selection.Selection.{Selection}
 
 -- ---- settings
 
--- when lines between rows are drawn, and when rows are expanded, counted from 0
+-- the settings for lines between rows, and for expanded rows, counted from 0
 abbrev pub separators : List RowSeparators
 separators = Styled ∷ Needed ∷ Never ∷ []
 
 abbrev pub expansions : List Expansion
 expansions = NeverExpanded ∷ Auto ∷ Always ∷ []
 
--- a look of these
+-- a look with these, if none is missing
 abbrev pub look_by : RowsSettings → Option TableStyle → Option RowSeparators → Option Expansion
     → Option Look
 look_by settings (Some style) (Some lines) (Some expansion) =
@@ -58,7 +58,7 @@ look_for settings =
     look_by settings (style_for settings.style settings.frame)
     (slice_get separators settings.row_lines) (slice_get expansions settings.expansion)
 
--- which rows are drawn
+-- the rows that are drawn
 abbrev pub selection_for : RowsSettings → Selection
 selection_for settings =
     record {
@@ -76,23 +76,24 @@ layout_by selection (Some look) (Some columns) =
 layout_by selection (Some look) None = None
 layout_by selection None columns = None
 
--- rows are drawn as one table that isn't for Markdown, whatever the width
+-- true if rows are drawn as one table that isn't for Markdown, whatever the width is
 abbrev pub is_table_of_rows : RowsSettings → Bool
 is_table_of_rows settings = (settings.expansion == 0) && not (is_set settings.is_markdown)
 
--- nothing is set but sides of columns at the left and right
+-- true if nothing is set except left and right sides of columns
 abbrev pub has_sides_alone : List LookNumbers → List ℕ → List RowsColumn → Bool
 has_sides_alone looks heights columns =
     (length looks == 0) && ((length heights == 0) && are_unset columns)
 
--- columns have sides that mean something, and nothing else is set but for such a table
+-- true if the sides of columns have a meaning, and other settings are set only if rows are drawn
+-- as one table
 abbrev pub can_have : RowsSettings → List LookNumbers → List ℕ → List RowsColumn → Bool
 can_have settings looks heights columns =
     have_sides columns
     && (has_sides_alone looks heights columns || is_table_of_rows settings)
 
--- the layout of rows that settings and columns ask for, if each number has a meaning and the
--- columns can be drawn so
+-- the layout of rows for settings and columns, if each number has a meaning and the columns can be
+-- drawn
 abbrev pub layout_for : RowsSettings → List LookNumbers → List ℕ → List RowsColumn
     → List (List Text) → Option Layout
 layout_for settings looks heights columns rows =
@@ -101,12 +102,14 @@ layout_for settings looks heights columns rows =
     (columns_for (selection_for settings) columns rows)
     else None
 
--- lengths are those of all texts and counts those of all rows, and so are looks and heights
+-- the lengths are those of all texts and the counts those of all rows, and so are the looks and
+-- heights
 abbrev pub AllAddUp : Text → List ℕ → List ℕ → List LookNumbers → List ℕ → Type 0
 AllAddUp texts lengths counts looks heights =
     AddUp texts lengths counts × (are_each looks lengths heights counts ≡ true)
 
--- the drawing of the rows of texts, as `csvtable` draws such records; all of them are counted
+-- `drawing` is the drawing of the rows of texts, as `csvtable` draws such records; all rows are
+-- counted
 pub record IsRowsDrawing (texts : Text) (lengths counts : List ℕ) (looks : List LookNumbers)
     (heights : List ℕ) (columns : List RowsColumn) (settings : RowsSettings)
     (drawing : Text) : Type 0 where
@@ -121,7 +124,7 @@ pub record IsRowsDrawing (texts : Text) (lengths counts : List ℕ) (looks : Lis
       (table_settings (is_set settings.has_header) counts looks heights columns) layout
       (rows_of texts lengths counts) drawing
 
--- settings, looks, heights or columns ask for nothing that can be drawn
+-- settings, looks, heights or columns can't be drawn
 abbrev pub IsSettingRefused : List (List Text) → List LookNumbers → List ℕ → List RowsColumn
     → RowsSettings → Type 0
 IsSettingRefused rows looks heights columns settings =
@@ -132,7 +135,7 @@ abbrev pub HasNoText : Text → List ℕ → List ℕ → List LookNumbers → L
 HasNoText texts lengths counts looks heights =
     AllAddUp texts lengths counts looks heights × ¬ (All IsUtf8 (cut_by lengths texts))
 
--- why rows have no drawing
+-- the error for rows without a drawing
 abbrev pub IsRowsRefusal : Text → List ℕ → List ℕ → List LookNumbers → List ℕ → List RowsColumn
     → RowsSettings → DrawRefusal → Type 0
 IsRowsRefusal texts lengths counts looks heights columns settings Lengths =

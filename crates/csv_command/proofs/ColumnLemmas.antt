@@ -13,7 +13,7 @@ then_fault : (found more : Result (List ℕ) ColumnFault) (xs : List ℕ) (fault
 then_fault found more xs fault before at_fault = rw (before, at_fault) refl
 
 module _ {A : Type 0} (names : List Text) (count : ℕ) (words : List (String A)) (i : ℕ) (d : String A) (xs : List ℕ) where
-  -- the fault of the first word that chooses nothing is that of all
+  -- the fault of the first word that chooses no column is the fault of the list
   stopped : (fault : ColumnFault) → i < length words → positions_of_each names count (take i words) ≡ Ok xs
       → positions_of_word names count (string_bytes (get_or words i d)) ≡ Err fault → positions_of_each names count words ≡ Err fault
   stopped fault within before at_fault =
@@ -26,6 +26,6 @@ module _ {A : Type 0} (names : List Text) (count : ℕ) (words : List (String A)
   refused_word (TwoSides name) within before at_fault = stopped (two_sided (string_bytes name)) within before at_fault
   refused_word OutOfMemory within before at_fault = tt
 
--- the first answer to the numbers that are left, by the next of them
+-- the first answer among the numbers that are left, given the next number
 pub next_answer : {A : Type 0} (f : ℕ → Option A) (i n : ℕ) → i < n → first_answer f (range_with_len i (n - i)) ≡ option_or (f i) (first_answer f (range_with_len (i + 1) (n - (i + 1))))
 next_answer f i n below = let one : n - i ≡ suc (n - (i + 1)) = omega arith in rw one refl

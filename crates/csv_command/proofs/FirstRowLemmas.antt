@@ -1,4 +1,4 @@
--- What is drawn of the first records of an input, as many as are drawn at most, is what is drawn of all of them.
+-- The first records of an input, at most as many as are drawn, have the same drawing as all records.
 use Rattle.std.proofs.Common.{◌≡◌, ◌≢◌, ◌<◌, ◌≤◌, ◌+◌, ◌-◌, ◌^◌, ℕ, suc, Bool, true, false, List, [], ◌∷◌, Option, Some, None, IfNone, IfSome, Result, drop, length, map, option_map, take, refl, sym, ap, ap₂, ◌∙◌, subst, arith, unwrap_or}
 use Rattle.std.specs.List.{slice_get}
 use Rattle.std.specs.Prelude.{if◌then◌else◌}
@@ -46,17 +46,17 @@ first_names true limit (r ∷ all) = let more : limit + 1 ≡ suc limit = omega 
 
 -- ---- what is drawn
 
--- the names and the drawn rows of two lists of records are the same
+-- two lists of records have the same names and the same drawn rows
 pub record AreDrawnAlike (selection : Selection) (first all : List (List Text)) : Type 0 where
   pub names : names_of selection.has_header first ≡ names_of selection.has_header all
   pub rows : drawn_rows selection first ≡ drawn_rows selection all
 
 module _ (options : Options) (first all : List (List Text)) (alike : AreDrawnAlike options.selection first all) where
-  -- words choose the same columns of both
+  -- words choose the same columns from both
   same_columns : columns_for options first ≡ columns_for options all
   same_columns = ap₂ (λ (n : Option (List Text)) (rs : List (List Text)). columns_by options.columns (unwrap_or n []) (record { all = count_of (unwrap_or n []) rs; filled = filled_count (unwrap_or n []) rs })) alike.names alike.rows
 
-  -- so what is drawn of them is the same
+  -- the same is drawn of both
   same_content : (count : Option ℕ) (columns : ColumnsValue) → selected_of count (layout_with options columns) first ≡ selected_of count (layout_with options columns) all
   same_content count columns = ap₂ shown alike.names alike.rows
     where
@@ -73,11 +73,11 @@ module _ (options : Options) (first all : List (List Text)) (alike : AreDrawnAli
         is_output = record { content = own.content; is_content = sym (same_content count made.columns) ∙ own.is_content; text = own.text; is_text = own.is_text; joined = own.joined };
       }
 
-  -- and it is refused for the same reason
+  -- both are refused for the same reason
   pub same_refusal : (e : ColumnsError) → IsColumnsRefusal e (columns_for options first) → IsColumnsRefusal e (columns_for options all)
   same_refusal e why = subst (λ (columns : Result ColumnsValue ColumnFault). IsColumnsRefusal e columns) same_columns why
 
--- the first records are drawn as all of them, where they are as many as are drawn at most
+-- the first records are drawn like all records, if at least as many are read as are drawn
 limited_alike : (selection : Selection) (first all : List (List Text)) (most : ℕ) → option_map (most_drawn selection.has_header) selection.limit ≡ Some most → first ≡ take most all → AreDrawnAlike selection first all
 limited_alike selection first all most own is = by_limit selection.limit refl own
   where
@@ -87,13 +87,13 @@ limited_alike selection first all most own is = by_limit selection.limit refl ow
         let own : most_drawn selection.has_header limit ≡ most = cc enough in
         rw (is, ← own) (record { names = first_names selection.has_header limit all; rows = rw known (first_rows selection.has_header limit all) })
 
--- or where they are all
+-- the same if all records are read
 pub drawn_alike : (selection : Selection) (first all : List (List Text)) (most : Option ℕ) → IfSome most (λ (m : ℕ). option_map (most_drawn selection.has_header) selection.limit ≡ Some m)
     → first ≡ take (unwrap_or most (2 ^ 64 - 1)) all → length all < 2 ^ 64 → AreDrawnAlike selection first all
 drawn_alike selection first all None own is few = let same : first ≡ all = is ∙ all_of_few (2 ^ 64 - 1) all (omega (arith, few)) in rw same (record { names = refl; rows = refl })
 drawn_alike selection first all (Some most) own is few = limited_alike selection first all most own is
 
--- the first records are those that are drawn
+-- the first records are the drawn ones
 pub first_drawn : (selection : Selection) (first all : List (List Text)) (most : Option ℕ) → IfSome most (λ (m : ℕ). option_map (most_drawn selection.has_header) selection.limit ≡ Some m)
     → IfNone most (IfSome selection.limit (λ limit. 2 ^ 64 ≤ most_drawn selection.has_header limit)) → first ≡ take (unwrap_or most (2 ^ 64 - 1)) all → length all < 2 ^ 64 → first ≡ drawn_records selection all
 first_drawn selection first all (Some most) own none is few = is ∙ sym (ap (λ (o : Option ℕ). limited o all) own)
@@ -106,14 +106,14 @@ first_drawn selection first all None own none is few = is ∙ all_of_few (2 ^ 64
 -- ---- outputs
 
 module _ (options : Options) where
-  -- the output for the first records is that for all of them
+  -- the output for the first records is the one for all of them
   pub whole_output : (first all : List (List Text)) (count : ℕ) (output : Text) → AreDrawnAlike options.selection first all → (length all ≡ 0 → ⊥) → count ≡ length all - (if options.selection.has_header then 1 else 0)
       → RendersChosen (Some count) options first output → RendersCounted options all output
   whole_output first [] count output alike some counted made = absurd (some refl)
   whole_output first (r ∷ all) count output alike some counted made =
       subst (λ (n : ℕ). RendersChosen (Some n) options (r ∷ all) output) (counted ∙ below_header options.selection (r ∷ all)) (same_output options first (r ∷ all) alike (Some count) output made)
 
-  -- where records are read up to a number, there is a limit
+  -- there is a limit if only some records are read
   limit_of : (most : ℕ) → options.counts_all ≡ false → option_map (most_drawn options.selection.has_header) options.selection.limit ≡ Some most → (own : HasLimit options) × (most_drawn options.selection.has_header own.limit ≡ most)
   limit_of most uncounted enough = by_limit options.selection.limit refl enough
     where
@@ -121,11 +121,11 @@ module _ (options : Options) where
       by_limit None known is = absurd (cc is)
       by_limit (Some limit) known is = (record { limit = limit; is = known; uncounted = uncounted }, cc is)
 
-  -- no memory, where a beginning was looked at
+  -- the fact after a lack of memory, if a beginning was read
   pub no_memory : (read : Text) (most : ℕ) → options.counts_all ≡ false → option_map (most_drawn options.selection.has_header) options.selection.limit ≡ Some most → IsRefusal options Beginning read err.OutOfMemory
   no_memory read most uncounted enough = (limit_of most uncounted enough).0
 
-  -- no beginning is enough where there is no limit, or no text has so many lines
+  -- no beginning is enough if there is no limit, or the limit is greater than the lines of any text
   pub unlimited : (read : Text) → length read < 2 ^ 64 → IfSome options.selection.limit (λ limit. 2 ^ 64 ≤ most_drawn options.selection.has_header limit) → IsNotEnough options read
   unlimited read short none records enough =
       let own = enough.has_limit in
@@ -133,7 +133,7 @@ module _ (options : Options) where
       let few = count_by-le-length is_line_feed (whole_lines read) in
       omega (arith, short, large, few, enough.are.feeds, whole_length read)
 
-  -- nor where none was found
+  -- no beginning is enough if the reader found none that is
   pub none_found : (read : Text) (most : ℕ) → option_map (most_drawn options.selection.has_header) options.selection.limit ≡ Some most → NoneAreEnough options.input most read → IsNotEnough options read
   none_found read most known none records enough =
       let own = enough.has_limit in
@@ -176,11 +176,11 @@ module _ (options : Options) where
     beginning_refused OutOfMemory why = own_limit.0
     beginning_refused e why = ((λ is. cc is), found.records, are_enough, same_refusal options first found.records alike e why)
 
-  -- there is no memory where an input is read as text
+  -- the fact after a lack of memory, if the input has a text
   pub whole_no_memory : (input text : Text) → IsDecodedBy options.input input text → IsInputRefusal options input err.OutOfMemory
   whole_no_memory input text is_text = λ wanted. (subst (λ (encoding : Encoding). IsDecoded encoding options.input.skip input text) wanted is_text.is_decoded).0
 
-  -- the long ones of the first records are those of the input
+  -- the long records among the first ones are those of the input
   pub whole_long_records : (input text : Text) (first all : List (List Text)) (longer found_long : Option LongRecords) → first ≡ drawn_records options.selection all → IsDecodedBy options.input input text → AreRecordsIn options.input text all
       → longer ≡ longer_records options.input text first → found_long ≡ (if options.selection.has_header then longer else None) → AreLongRecordsOfInput options input found_long
   whole_long_records input text first all longer found_long drawn is_text are_records are is =
@@ -190,7 +190,7 @@ module _ (options : Options) where
         is = is ∙ ap (λ (l : Option LongRecords). if options.selection.has_header then l else None) (are ∙ ap (longer_records options.input text) drawn);
       }
 
-  -- columns of an input's records can't be drawn so
+  -- columns can't be chosen from the records of the input
   pub whole_refused : (input text : Text) (first all : List (List Text)) → AreDrawnAlike options.selection first all → IsDecodedBy options.input input text → AreRecordsIn options.input text all → (length all ≡ 0 → ⊥)
       → (e : ColumnsError) → IsColumnsRefusal e (columns_for options first) → IsInputRefusal options input (of_columns e)
   whole_refused input text first all alike is_text are some e why = by_error e (same_refusal options first all alike e why)

@@ -1,4 +1,4 @@
--- How the program's command comes to have its rules.
+-- The program's command has the rules of its table.
 use Rattle.std.proofs.Common.{◌≡◌, ◌≢◌, inl, inr, ℕ, ◌+◌, ◌<◌, Bool, true, false, List, [], ◌∷◌, ◌++◌, Option, Some, None, map, take, drop, get_or, length, slice_index_or, arith, rules, tests, refl, sym, subst, ap, ap₂, ◌∙◌}
 use Rattle.std.proofs.lemmas.Grind.{common_steps}
 use Rattle.clap.specs.Walk.{is_simple_arg}
@@ -25,20 +25,20 @@ stays_simple k name rule h = h
 not_global : (arg : Arg) → is_simple_arg arg ≡ true → arg.global ≡ false
 not_global arg h = search (rules, tests)
 
--- no argument's argument is global
+-- no argument is global
 pub local : (arg : Arg) (option : OptionSpec) → bare (rule_of arg) ≡ rule_for option → arg.global ≡ false
 unfolding rule_for
 local arg option is =
     not_global arg (ap (λ (known : Rule × List Text). known.0.is_simple) is ∙ stays_simple option.kind option.name.now _ (lettered_simple option.letter option.name.now))
 
--- one more rule, for one more argument
+-- one more rule for one more argument
 pub one_more : (arguments : List OptionSpec) (i : ℕ) (option : OptionSpec) (had : List Rule) (rule : Rule) → i < length arguments → map bare had ≡ map rule_for (take i arguments)
     → bare rule ≡ rule_for (slice_index_or arguments i option) → map bare (had ++ rule ∷ []) ≡ map rule_for (take (i + 1) arguments)
 one_more arguments i option had rule inside same new = grind (arith, common_steps)
 
 -- ---- such a command is simple
 
--- rules, with what `bare` takes from those of another list
+-- rules with the names that `bare` has taken from those of another list
 restored : List (Rule × List Text) → List Rule → List Rule
 restored [] from = []
 restored (known ∷ more) from = record known.0 { parser = (get_or from 0 (new_rule [])).parser } ∷ restored more (drop 1 from)
@@ -53,7 +53,7 @@ are_restored (r ∷ rs) (c ∷ cs) h =
     let rest : map bare rs ≡ cs = cc h in
     ap₂ (λ (x : Rule) (xs : List Rule). x ∷ xs) (ap (λ (x : Rule × List Text). record x.0 { parser = r.parser }) head) (are_restored rs cs rest)
 
--- P holds of a command that has the program's rules, where it holds of those rules, whatever the names of values are
+-- P holds for a command with the program's rules, if it holds for these rules with any names of values
 by_rules : (P : App → Type 0) → ((from : List Rule) → P (with_rules wordless (restored csvtable_rules from))) → (app : App) → IsCsvtable app → P app
 by_rules P each app is =
     let rules = app.top.rules in
@@ -68,7 +68,7 @@ restored_is_simple from = refl
 pub csvtable_is_simple : (app : App) → IsCsvtable app → is_simple app ≡ true
 csvtable_is_simple = by_rules (λ app. is_simple app ≡ true) restored_is_simple
 
--- and no rule of it is on another one
+-- no rule of the command refers to another rule
 restored_is_free : (from : List Rule) → is_simple_and_free (with_rules wordless (restored csvtable_rules from)) ≡ true
 unfolding restored
 restored_is_free from = refl
@@ -76,7 +76,8 @@ restored_is_free from = refl
 pub csvtable_is_free : (app : App) → IsCsvtable app → is_simple_and_free app ≡ true
 csvtable_is_free = by_rules (λ app. is_simple_and_free app ≡ true) restored_is_free
 
--- where the arguments would be taken, no memory is the only fault; else the kind is among those of the arguments
+-- If the arguments would be taken, a lack of memory is the only error. Otherwise the kind is one of those for the
+-- arguments.
 pub not_taken : (app : App) (arguments : List Text) (e : Error) → IsCsvtable app → (takes app arguments ≡ true → kind_of e ≡ OutOfMemory) → HasKind (fault_of app arguments) e
     → kind_of e ≢ OutOfMemory → AreNotTaken arguments (kind_of e)
 not_taken app arguments e is passes kinds other = by_test (takes app arguments) refl

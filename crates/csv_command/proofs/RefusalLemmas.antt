@@ -1,4 +1,4 @@
--- What is said of arguments that ask for no drawing, and of an input that can't be drawn as they ask.
+-- Messages about arguments that request no drawing, and about an input that can't be drawn as they request.
 use Rattle.std.proofs.Common.{◌≡◌, ◌≢◌, ◌⊎◌, inl, inr, List, refl}
 use Rattle.clap.specs.Words.{kind_of}
 use Rattle.clap.specs.declared.error.Error.{Error}
@@ -15,18 +15,18 @@ use Rattle.csv_command.specs.declared.error.CsvError.{CsvError}
 use Rattle.csv_command.specs.declared.error.CsvError.TheVariants as err
 use Rattle.csv_command.specs.declared.arguments.Options.{Options}
 
--- where there was memory, the input is at fault
+-- unless memory ran out, the input is at fault
 fault_of : (options : Options) (input : Text) (e : CsvError) → e ≢ err.OutOfMemory → IsInputRefusal options input e → IsInputFault options input e
 fault_of options input err.OutOfMemory other why = absurd (other refl)
 fault_of options input e other why = why
 
--- so the refusal is of the input
+-- so the refusal is one of the input
 pub refused_input : (arguments : List Text) (input : Text) (invocation : Invocation) → IsParsed arguments not_a_terminal invocation → (e : CsvError) → IsInputRefusal invocation.options input e → (refusal : Refusal) → IsRefusalOfInput invocation e refusal → IsRefusedFor arguments input refusal
 refused_input arguments input invocation is_asked e why (Arguments message) is = absurd is
 refused_input arguments input invocation is_asked e why (Input message) is = record { invocation = invocation; is_asked = is_asked; error = e; is_fault = fault_of invocation.options input e is.0 why; is_line = is.1 }
 refused_input arguments input invocation is_asked e why OutOfMemory is = tt
 
--- where clap has something to say, the arguments are at fault
+-- if clap has a text, the arguments are at fault
 pub refused_arguments : (arguments : List Text) (input : Text) (e : Error) → IsRefusedBy arguments e → (refusal : Refusal) → IsRefusalByKind (kind_of e) refusal → IsRefusedFor arguments input refusal
 refused_arguments arguments input e why (Arguments message) is = record { in_vain = by_reason (why is.0); harmless = is.1 }
   where

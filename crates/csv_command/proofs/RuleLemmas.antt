@@ -1,4 +1,4 @@
--- What an option of the program's table is for clap: its name, its letter and its greatest number.
+-- The rule of clap for an option of the program's table: its name, its letter and its greatest number.
 use Rattle.std.proofs.Common.{◌≡◌, ◌-◌, ◌^◌, ℕ, Option, Some, None, refl}
 use Rattle.clap.specs.Words.{Rule, new_rule}
 use Rattle.comfy_parts.specs.Text.{Text}
@@ -9,19 +9,19 @@ use Rattle.csv_command.specs.declared.options.Kind.{Kind}
 use Rattle.csv_command.specs.declared.options.Kind.TheVariants as kind
 use Rattle.csv_command.specs.declared.options.OptionSpec.{OptionSpec}
 
--- the name with hyphens that an option of a kind has
+-- the long name of an option of this kind
 abbrev pub long_name : Kind → Text → Option Text
 long_name kind.File name = None
 long_name kind.Letter name = None
 long_name _ name = Some name
 
--- the greatest number that an option of a kind takes
+-- the greatest number of an option of this kind
 abbrev pub kind_greatest : Kind → Option ℕ
 kind_greatest kind.Width = Some 65535
 kind_greatest kind.Count = Some (2 ^ 64 - 1)
 kind_greatest _ = None
 
--- a rule that a kind and a letter make of a new one
+-- the rule for a kind, a letter and a name
 abbrev made : Kind → Option ℕ → Text → Rule
 made k letter name = (with_values k (bare (of_kind k name (lettered letter (new_rule name))))).0
 

@@ -1,4 +1,4 @@
--- What a call of `draw` that stopped ensures, by this crate's error.
+-- The facts after a call of `draw` that stopped, by this crate's error.
 use Rattle.std.proofs.Common.{◌≡◌, ◌≢◌, ◌++◌, Err, MatchOption, None, Option, Some, [], ap, append_assoc, drop, inl, inr, refl, subst, suc, sym, true, zero, ℕ, ◌∙◌}
 use Rattle.std.proofs.lemmas.List.{take-append-drop}
 use Rattle.csv_records.proofs.WholeLineLemmas.{whole_front}
@@ -26,12 +26,12 @@ use Rattle.devices.specs.Run.{IsAfter as IsAfterRun, IsAfterIn as IsAfterRunIn}
 use Rattle.devices.specs.declared.transfer.Stop.{Stop}
 use Rattle.devices.specs.declared.transfer.Stop.TheVariants.{OutOfMemory, Refused, Unfinished}
 
--- nothing is below lines of nothing
+-- nothing is below the lines of an empty text
 pub no_lines : (count : ℕ) → below_lines count [] ≡ []
 no_lines zero = refl
 no_lines (suc count) = no_lines count
 
--- what stops a run, by this crate's error
+-- the facts by what stopped the run
 after_stop_in : (T : Type 0) (options : Options) (extent : Extent) (stop : Stop CsvError) (facts : RunFacts) → IsAfterRunIn (IsNotEnough options) (RendersExtent options) (IsRefusal options) {T = T} (Err stop) extent facts
     → IsAfterIn {T = T} options (Err (of_stop stop)) extent facts
 after_stop_in T options Whole OutOfMemory facts after = inl (record { no_device_failed = after.no_device_failed; nothing_written = after.nothing_written; fine = λ whole wanted. subst (λ (input : Text). IsUtf8 (below_lines options.input.skip input)) (sym (after.fine whole)) (subst IsUtf8 (sym (no_lines options.input.skip)) IsUtf8-nil) })
@@ -55,7 +55,7 @@ after_stop T options stop facts (inr part) =
       says = after_stop_in T options Beginning stop (record facts { input = asked_front part.n facts.input; end_was_read = true }) part.says;
     })
 
--- what is drawn of a beginning is drawn of whole lines, behind which the rest of the input stands
+-- the drawn beginning has complete lines, and the rest of the input follows them
 pub beginning_parts : (n : ℕ) (input : Text) → (behind : Text) × (input ≡ whole_lines (asked_front n input) ++ behind)
 beginning_parts n input =
     let lines = whole_front (asked_front n input) in
@@ -65,7 +65,7 @@ beginning_parts n input =
     )
 
 module _ (options : Options) (input : Text) where
-  -- where memory ran out, nothing was seen by which it's no text, and it isn't to be UTF-8
+  -- if memory ran out, the input wasn't recognised as something else, and isn't read as UTF-8
   no_memory : (o : Option NotText) → MatchOption o (IsRefusedIn (encoding_of options.input.encoding input) options.input.skip input decode.OutOfMemory) (λ other. decode.OutOfMemory ≡ decode.NotText other)
       → encoding_of options.input.encoding input ≢ Utf8
   no_memory None why wanted = subst (λ (encoding : Encoding). IsRefusedIn encoding options.input.skip input decode.OutOfMemory) wanted why

@@ -1,4 +1,4 @@
--- Each style that arguments can ask for has characters of one terminal column, and none that is replaced in fields.
+-- Each style that arguments can name has characters of one terminal column, and none that is replaced in fields.
 use Rattle.std.proofs.Common.{◌≡◌, ℕ, Bool, not, true, List, [], ◌∷◌, Option, Some, None, codes, option_map, unwrap_or, refl, subst, sym}
 use Rattle.std.proofs.lemmas.Bool.{and_parts, cond_both, not-true}
 use Rattle.std.specs.List.{find, list_all, list_any}
@@ -17,11 +17,11 @@ use Rattle.csv_records.specs.Cleaning.{is_replaced}
 use Rattle.csv_tables.specs.Controls.{IsHarmlessStyle}
 
 module _ (p : TableStyle → Bool) where
-  -- a style passes, or `UTF8_FULL` in the place of none
+  -- a style passes, or `UTF8_FULL` if there is none
   abbrev Passes : Option TableStyle → Type 0
   Passes style = p (unwrap_or style utf8_full) ≡ true
 
-  -- what is found passes where each of a table does
+  -- the style that is found passes if each style of the table does
   found_passes : Passes None → (table : List (Text × TableStyle)) (word : Text) → list_all (λ (entry : Text × TableStyle). p entry.1) table ≡ true → Passes (style_within table word)
   found_passes none [] word all = none
   found_passes none (entry ∷ entries) word all =
@@ -32,7 +32,7 @@ module _ (p : TableStyle → Bool) where
   first_passes (Some style) second one other = one
   first_passes None second one other = other
 
-  -- so the style of any name does
+  -- the style of any name passes
   named_passes : Passes None → list_all (λ (entry : Text × TableStyle). p entry.1) own_styles ≡ true → list_all (λ (entry : Text × TableStyle). p entry.1) named_presets ≡ true → (word : Text) → p (named_style word) ≡ true
   named_passes none own presets word = first_passes (style_within own_styles word) (style_within named_presets word) (found_passes none own_styles word own) (found_passes none named_presets word presets)
 

@@ -1,4 +1,4 @@
--- What `clap` gives of a value that is a number.
+-- The number that `clap` gives for a value.
 use Rattle.std.proofs.Common.{◌≡◌, ℕ, List, Option, Some, None, Result, Ok, Err, refl}
 use Rattle.std.specs.Prelude.{option_and_then}
 use Rattle.std.specs.Str.Parse.{ParsesUnsigned, without_leading_plus}
@@ -6,7 +6,7 @@ use Rattle.clap.specs.Words.{ReadsOne}
 use Rattle.csv_records.proofs.NumeralLemmas.{read}
 use Rattle.csv_records.specs.Numerals.{number_for}
 
--- what `get_one` gives of what clap found, at a type that reads arguments as `parse` reads numbers of so many bits
+-- the result of `get_one` for a value, at a type that reads arguments as `parse` reads numbers of this many bits
 module _ (bits : ℕ) (E : Type 0) (G : List ℕ → Result ℕ E → Type 0) (only : (word : List ℕ) (r : Result ℕ E) → G word r → ParsesUnsigned bits 10 word r) where
   of_word : (word : List ℕ) (number : Option ℕ) → ReadsOne G word number → number ≡ number_for bits (without_leading_plus word)
   of_word word (Some n) h = read bits word {E = E} (Ok n) (only word (Ok n) h)

@@ -1,4 +1,4 @@
--- What arguments on the command line ask for.
+-- Options that the arguments on the command line give.
 -- Source: this library's own; POSIX for COLUMNS, no-color.org for NO_COLOR.
 use Rattle.std.specs.Prelude.{◌≡◌, ◌≢◌, ◌⊎◌, ◌-◌, ℕ, Bool, true, false, not, ◌==◌, ◌&&◌, ◌||◌, nat_le, nat_lt, List, [], ◌∷◌, Option, Some, None, bytes_eq, codes, drop, length, map, option_and_then, option_map, string_bytes, unwrap_or, if◌then◌else◌}
 use Rattle.std.specs.List.{list_any, slice_split}
@@ -33,19 +33,19 @@ use Rattle.csv_tables.specs.declared.selection.Selection.{Selection}
 use Rattle.csv_tables.specs.declared.options.RowSeparators.{RowSeparators}
 use Rattle.csv_tables.specs.declared.options.RowSeparators.TheVariants.{Styled, Needed, Never}
 
--- a path ends so, in any case of letters
+-- true if a path ends with `end`, in letters of either case
 abbrev pub has_end : Text → Text → Bool
 has_end end path = str_eq_ignore_ascii_case (drop (length path - length end) path) end
 
--- what stands between fields where no argument says so: found in the input, or TAB in a file with
--- such a name
+-- the delimiter if no argument sets it: for a file `.tsv` or `.tab`, TAB unless its first line
+-- names another one, and otherwise the one that is found in the input
 abbrev pub delimiter_by : Option Text → Delimiter
 delimiter_by None = AutoDelimiter
 delimiter_by (Some path) =
     if has_end (codes ".tsv") path || has_end (codes ".tab") path then NamedOrTab else AutoDelimiter
 
--- what an argument asks for: TAB for `tab` and `\t`, spaces for `spaces`, else the argument's only
--- character
+-- the delimiter for an argument: TAB for `tab` and `\t`, spaces for `spaces`, and otherwise the
+-- argument's only character
 abbrev pub delimiter_for : Option Text → Option Text → Option Delimiter
 delimiter_for None file = Some (delimiter_by file)
 delimiter_for (Some word) file =
@@ -54,13 +54,14 @@ delimiter_for (Some word) file =
     else if is_named (codes "spaces") word then Some Spaces
     else option_map Byte (only_ascii word)
 
--- a name of UTF-16, whose order of bytes its mark tells, else little-endian
+-- true for a name of UTF-16; a byte-order mark sets the order of bytes, which is otherwise
+-- little-endian
 abbrev pub is_utf16 : Text → Bool
 is_utf16 name =
     is_named (codes "utf-16") name
     || (is_named (codes "utf16") name || is_named (codes "utf-16le") name)
 
--- the encoding of a name; that of each other name is Windows-1252, also of `latin1`
+-- the encoding of a name: each other name, also `latin1`, is one of Windows-1252
 abbrev pub encoding_for : Option Text → Option Encoding
 encoding_for None = None
 encoding_for (Some name) =
@@ -70,7 +71,7 @@ encoding_for (Some name) =
     then Some Utf16
     else Some Cp1252
 
--- a width, where it isn't 0
+-- a width, or `None` for 0
 abbrev pub some_width : ℕ → Option ℕ
 some_width width = if width == 0 then None else Some width
 
@@ -78,12 +79,12 @@ some_width width = if width == 0 then None else Some width
 abbrev pub some_columns : ℕ → Option ℕ
 some_columns columns = if nat_lt 0 columns && nat_le columns 65535 then Some columns else None
 
--- the width of a terminal: that of `COLUMNS`, where it is such a number, else 80
+-- the width of a terminal: that of `COLUMNS` if it is such a number, or else 80
 abbrev pub terminal_width : Option Text → ℕ
 terminal_width None = 80
 terminal_width (Some columns) = unwrap_or (option_and_then some_columns (number_for 64 columns)) 80
 
--- the width that is kept: the one that was asked for, else the terminal's; 0 is none
+-- the width of the table: the one that is set, or else the terminal's; 0 means that there is none
 abbrev pub width_for : Option ℕ → OutputContext → Option ℕ
 width_for (Some width) context = some_width width
 width_for None context =
@@ -91,17 +92,17 @@ width_for None context =
     then Some (terminal_width (option_map (λ c. c.now) context.columns))
     else None
 
--- colours are wanted: `NO_COLOR` is missing or empty
+-- true if colours are wanted: `NO_COLOR` is missing or empty
 abbrev pub wants_color : Option Text → Bool
 wants_color None = true
 wants_color (Some text) = length text == 0
 
--- the header is in bold where nothing says when: in a terminal where colours are wanted
+-- true if the header is in bold when no option says so: in a terminal, if colours are wanted
 abbrev pub is_bold_there : OutputContext → Bool
 is_bold_there context =
     context.is_terminal && wants_color (option_map (λ c. c.now) context.no_color)
 
--- whether the header is in bold: always, never, or else by where the output goes
+-- true if the header is in bold: always, never, or depending on the destination
 abbrev pub is_bold_for : Option Text → OutputContext → Bool
 is_bold_for None context = is_bold_there context
 is_bold_for (Some word) context =
@@ -109,12 +110,12 @@ is_bold_for (Some word) context =
     else if bytes_eq word (codes "never") then false
     else is_bold_there context
 
--- the number that was found for an option; a plus may stand before it
+-- the number that was found for an option; a plus may precede it
 abbrev pub number_found : ℕ → Found → Text → Option ℕ
 number_found bits found id =
     option_and_then (λ word. number_for bits (without_leading_plus word)) (one_text found id)
 
--- an option is given: a value was found for it, and not the one of a flag that isn't set
+-- true if an option is given: a value was found for it, other than the one of a flag that isn't set
 abbrev pub is_given : Found → Text → Bool
 is_given found id =
     option_map_or (λ value. not (bytes_eq value (codes "false"))) (first_value found id) false
@@ -123,7 +124,7 @@ is_given found id =
 abbrev pub ids_in : Found → List Text
 ids_in found = map (λ (row : Row). row.id) (rows_of found)
 
--- one stands behind another
+-- true if `other` follows `id` in a list
 abbrev pub is_behind : Text → Text → List Text → Bool
 is_behind id other [] = false
 is_behind id other (it ∷ rest) =
@@ -131,25 +132,25 @@ is_behind id other (it ∷ rest) =
     then list_any (λ one. bytes_eq one other) rest
     else is_behind id other rest
 
--- an option is given, and the other one isn't given behind it
+-- true if an option is given, and the other one isn't given after it
 abbrev pub is_given_last : Found → Text → Text → Bool
 is_given_last found id other =
     is_given found id && not (is_given found other && is_behind id other (ids_in found))
 
--- what is to stand between fields
+-- the delimiter that the options set
 abbrev pub wanted_delimiter : Found → Option Delimiter
 wanted_delimiter found =
     if is_given_last found (codes "tabs") (codes "delimiter")
     then Some (Byte 0x09)
     else delimiter_for (first_value found (codes "delimiter")) (first_value found (codes "file"))
 
--- a table for Markdown is asked for, by its own argument or as a style
+-- true if a table for Markdown is requested, by its own option or as a style
 abbrev pub is_markdown_in : Found → Bool
 is_markdown_in found =
     is_given_last found (codes "markdown") (codes "style")
     || option_map_or (is_named (codes "markdown")) (first_value found (codes "style")) false
 
--- where lines between rows are drawn: by the arguments for them, else by the style
+-- the setting for lines between rows: by the options for them, or else by the style
 abbrev pub separators_for : Bool → Bool → Option Text → RowSeparators
 separators_for has_rows has_none style =
     if has_rows
@@ -160,8 +161,8 @@ separators_for has_rows has_none style =
     then Needed
     else Styled
 
--- when a record is drawn as a table of its own: always, or as an argument says, else where columns
--- would be too narrow
+-- the setting for drawing a record as a table of its own: always, or as an option says, or else if
+-- columns would be too narrow
 abbrev pub expansion_for : Bool → Option Text → Expansion
 expansion_for true word = Always
 expansion_for false None = Auto
@@ -172,17 +173,18 @@ expansion_for false (Some word) =
     then NeverExpanded
     else Auto
 
--- the file to read: none without an argument, and none for a hyphen
+-- the file to read, or `None` without an argument and for a hyphen
 abbrev pub file_for : Option Text → Option Text
 file_for None = None
 file_for (Some word) = if bytes_eq word (codes "-") then None else Some word
 
--- the words of a list, which stand between commas; none without a list
+-- the words of a list, which are separated by commas; no words without a list
 abbrev pub words_in : Option Text → List Text
 words_in None = []
 words_in (Some list) = slice_split (λ b. b == 0x2C) list
 
--- a look that follows from the values that were found for options, and from where the output goes
+-- the look follows from the values that were found for options, and from the destination of the
+-- output
 pub record IsLookParsed (context : OutputContext) (found : Found) (look : Look) : Type 0 where
   pub style : look.style ≡ style_for (first_value found (codes "style"))
   pub separators :
@@ -200,7 +202,7 @@ pub record IsLookParsed (context : OutputContext) (found : Found) (look : Look) 
   pub sequences : look.has_sequences ≡ is_given found (codes "ansi")
   pub markdown : look.is_markdown ≡ is_markdown_in found
 
--- how the input is read, by such values
+-- the options for reading the input follow from these values
 pub record IsInputParsed (found : Found) (input : InputOptions) : Type 0 where
   pub encoding : input.encoding ≡ encoding_for (first_value found (codes "encoding"))
   pub skip : input.skip ≡ unwrap_or (number_found 64 found (codes "skip")) 0
@@ -208,14 +210,14 @@ pub record IsInputParsed (found : Found) (input : InputOptions) : Type 0 where
   pub header : input.has_header ≡ not (is_given found (codes "no-header"))
   pub quotes : input.has_quotes ≡ not (is_given found (codes "no-quotes"))
 
--- which records are drawn
+-- the selection of records follows from these values
 pub record IsSelectionParsed (found : Found) (selection : Selection) : Type 0 where
   pub header : selection.has_header ≡ not (is_given found (codes "no-header"))
   pub limit : selection.limit ≡ number_found 64 found (codes "limit")
   pub numbers : selection.is_numbered ≡ is_given found (codes "number")
   pub noun : selection.noun ≡ Record
 
--- which columns are drawn
+-- the words for columns follow from these values
 pub record AreColumnsParsed (found : Found) (columns : ColumnWords) : Type 0 where
   pub chosen : map string_bytes columns.chosen.items
       ≡ words_in (first_value found (codes "columns"))
@@ -223,7 +225,7 @@ pub record AreColumnsParsed (found : Found) (columns : ColumnWords) : Type 0 whe
   pub right : map string_bytes columns.right.items ≡ words_in (first_value found (codes "right"))
   pub left : map string_bytes columns.left.items ≡ words_in (first_value found (codes "left"))
 
--- options that follow from such values
+-- all options follow from these values
 pub record AreOptionsParsed (context : OutputContext) (found : Found)
     (options : Options) : Type 0 where
   pub input : IsInputParsed found options.input
@@ -232,13 +234,13 @@ pub record AreOptionsParsed (context : OutputContext) (found : Found)
   pub columns : AreColumnsParsed found options.columns
   pub look : IsLookParsed context found options.look
 
--- the values that clap finds in the arguments by the program's command
+-- `found` are the values that clap finds in the arguments with the program's command
 pub record AreFound (arguments : List Text) (found : Found) : Type 0 where
   pub app : App
   pub is_csvtable : IsCsvtable app
   pub is_found : rows_of found ≡ matches_of app arguments
 
--- what is asked for follows from such values
+-- the invocation follows from such values
 pub record IsParsed (arguments : List Text) (context : OutputContext)
     (invocation : Invocation) : Type 0 where
   pub found : Found
@@ -246,22 +248,22 @@ pub record IsParsed (arguments : List Text) (context : OutputContext)
   pub options : AreOptionsParsed context found invocation.options
   pub file : option_map string_bytes invocation.file ≡ file_for (first_value found (codes "file"))
 
--- arguments that the program's command doesn't take. The kind is clap's for the first of them at
--- which it stops: help, the version, or a mistake
+-- The program's command refuses the arguments. The kind is clap's for the first argument at which
+-- it stops: help, the version, or a mistake.
 pub record AreNotTaken (arguments : List Text) (kind : ErrorKind) : Type 0 where
   pub app : App
   pub is_csvtable : IsCsvtable app
   pub not_taken : takes app arguments ≡ false
   pub is_kind : IsAmong kind (fault_of app arguments)
 
--- arguments of which a delimiter is found that is none
+-- the arguments give a word that can't be a delimiter
 pub record AreFoundInVain (arguments : List Text) : Type 0 where
   pub found : Found
   pub are_found : AreFound arguments found
   pub in_vain : wanted_delimiter found ≡ None
 
--- why nothing is asked for: the arguments aren't taken, or were found in vain, which is said as an
--- invalid value, or there is no memory
+-- the error for arguments: they are refused, or have a wrong delimiter, which counts as an invalid
+-- value, or there is no memory
 abbrev pub IsRefusedBy : List Text → Error → Type 0
 IsRefusedBy arguments e =
     (kind_of e ≢ OutOfMemory)

@@ -1,4 +1,4 @@
--- How the program ends: its status, and what it says.
+-- The end of the program: its status and its message.
 -- Source: this library's own.
 use Rattle.std.specs.Prelude.{◌≡◌, ℕ, ◌-◌, ◌==◌, ◌&&◌, ◌||◌, nat_lt, Bool, true, false, ◌++◌, [], MatchBool, MatchResult, Option, Some, None, chars, codes, decimal, if◌then◌else◌, option_map, string_bytes}
 use Rattle.std.specs.List.{list_any}
@@ -36,14 +36,14 @@ abbrev pub input_name : Option Text → Text
 input_name None = codes "standard input"
 input_name (Some path) = shown_name path
 
--- why it can't be opened or read, by the kind of the error
+-- the reason for an input that can't be opened or read, by the kind of the error
 abbrev pub reading_reason : Option IoErrorKind → Text
 reading_reason (Some io.NotFound) = codes "no such file"
 reading_reason (Some io.IsADirectory) = codes "is a directory"
 reading_reason (Some io.PermissionDenied) = codes "permission denied"
 reading_reason _ = codes "can't be read"
 
--- what helps where no encoding was asked for
+-- the hint for an input that isn't UTF-8, if no encoding is set
 abbrev pub encoding_hint : Option Encoding → Bool → Text
 encoding_hint None may_be_cp1252 =
     if may_be_cp1252
@@ -51,7 +51,7 @@ encoding_hint None may_be_cp1252 =
     else codes "; try iconv -f ENCODING FILE | csvtable"
 encoding_hint (Some encoding) may_be_cp1252 = []
 
--- what an input is that is no CSV in UTF-8, and what helps
+-- the kind of an input that isn't CSV in UTF-8, with a hint
 abbrev pub not_text_reason : NotText → Text
 not_text_reason not_text.Gzip = codes "compressed by gzip; try zcat FILE | csvtable"
 not_text_reason not_text.Zip =
@@ -71,7 +71,7 @@ not_text_reason (not_text.Binary number) =
     (codes "line " ++ decimal number)
     ++ codes " has a NUL byte, so this isn't text; -e utf-8 reads it anyway"
 
--- why an input has no text
+-- the reason for an input without text
 abbrev pub decoding_reason : Option Encoding → DecodeError → Text
 decoding_reason encoding (decode.NotText other) = not_text_reason other
 decoding_reason encoding (decode.NotUtf8 number may_be_cp1252) =
@@ -81,7 +81,7 @@ decoding_reason encoding (decode.NotUtf16 number) =
     (codes "line " ++ decimal number) ++ codes " isn't UTF-16"
 decoding_reason encoding decode.OutOfMemory = codes "out of memory"
 
--- why a text has no records
+-- the reason for a text without records
 abbrev pub records_reason : RecordsError → Text
 records_reason (records.Unclosed number) =
     (codes "a quote that opens in line " ++ decimal number)
@@ -89,7 +89,7 @@ records_reason (records.Unclosed number) =
 records_reason records.SplitCharacter = codes "the delimiter splits a character"
 records_reason records.OutOfMemory = codes "out of memory"
 
--- why columns can't be drawn so
+-- the reason for an error in the choice of columns
 abbrev pub columns_reason : ColumnsError → Text
 columns_reason (columns.NoColumn word hint) =
     (codes "no column '" ++ shown_name (string_bytes word))
@@ -100,7 +100,7 @@ columns_reason (columns.TwoSides name) =
     ++ codes "' can't stand at the right and at the left"
 columns_reason columns.OutOfMemory = codes "out of memory"
 
--- why there is no drawing
+-- the reason for a missing drawing
 abbrev pub reason_for : Option Encoding → Option IoErrorKind → CsvError → Text
 reason_for encoding fault err.Read = reading_reason fault
 reason_for encoding fault err.Write = codes "the output can't be written"
@@ -109,46 +109,47 @@ reason_for encoding fault (err.Records e) = records_reason e
 reason_for encoding fault (err.Columns e) = columns_reason e
 reason_for encoding fault err.OutOfMemory = codes "out of memory"
 
--- an error is of the input, so that its message names it
+-- true if an error is one of the input, so that its message names the input
 abbrev pub is_of_input : CsvError → Bool
 is_of_input err.Write = false
 is_of_input err.OutOfMemory = false
 is_of_input _ = true
 
--- what a message begins with
+-- the beginning of a message
 abbrev pub about : Bool → Option Text → Text
 about true file = (codes "csvtable: " ++ input_name file) ++ codes ": "
 about false file = codes "csvtable: "
 
--- the line on an error
+-- the line about an error
 abbrev pub message_for : Invocation → Option IoErrorKind → CsvError → Text
 message_for invocation fault e =
     (about (is_of_input e) (option_map string_bytes invocation.file)
     ++ reason_for invocation.options.input.encoding fault e) ++ codes "\n"
 
--- how many other records have more fields
+-- the number of other records with more fields
 abbrev pub others_counted : ℕ → Text
 others_counted others =
     if others == 0 then []
     else if others == 1 then codes " (and 1 more line)"
     else (codes " (and " ++ decimal others) ++ codes " more lines)"
 
--- other lines are above a table that begins with these records: all that follow have more fields
--- than the header, and not only one for a delimiter at their ends
+-- True if these records are below other lines, which aren't part of the table. Then all records
+-- that follow have more fields than the first one. A single additional field isn't enough, unless
+-- the first record has only one: it may come from a delimiter at the end of each line.
 abbrev pub is_below_preamble : LongRecords → Bool
 is_below_preamble longer =
     longer.lasts
     && ((longer.first_fields == 1) || nat_lt 1 (longer.fields - longer.first_fields))
 
--- how to leave out the lines above one
+-- a hint to leave out the lines above `line`
 abbrev pub skip_hint : ℕ → Text
 skip_hint line = codes "; try --skip " ++ decimal (line - 1)
 
--- what helps then: to leave out the lines above the first of them
+-- a hint to leave out the lines above the first of these records, if they are below other lines
 abbrev pub preamble_hint : LongRecords → Text
 preamble_hint longer = if is_below_preamble longer then skip_hint longer.line else []
 
--- the line on records that have more fields than the header
+-- the line about records that have more fields than the header
 abbrev pub longer_line : Option Text → LongRecords → Text
 longer_line file longer =
     (((about true file
@@ -158,7 +159,7 @@ longer_line file longer =
     ++ preamble_hint longer)
     ++ codes "\n"
 
--- the line on an input without records, of which so many lines are left out
+-- the line about an input without records, of which `skip` lines are left out
 abbrev pub blank_line : Option Text → ℕ → Text
 blank_line file skip =
     about true file
@@ -166,28 +167,28 @@ blank_line file skip =
     then codes "no records\n"
     else (codes "no records below --skip " ++ decimal skip) ++ codes "\n")
 
--- what is said before the input is read: that it's waited for, where a terminal is to give it
+-- the line before the input is read: the program waits for it if it comes from a terminal
 abbrev pub waiting_notice : Option Text → Bool → Text
 waiting_notice None true = codes "csvtable: reading from the terminal; end with Ctrl-D\n"
 waiting_notice None false = []
 waiting_notice (Some path) is_terminal = []
 
--- the line where an argument isn't UTF-8
+-- the line for an argument that isn't UTF-8
 abbrev pub argument_not_utf8 : Text
 argument_not_utf8 = codes "csvtable: an argument isn't UTF-8\n"
 
--- the line where the output can't be written
+-- the line for an output that can't be written
 abbrev pub output_unwritten : Text
 output_unwritten = codes "csvtable: the output can't be written\n"
 
--- the line where it takes no more for now
+-- the line for an output that takes no more for now
 abbrev pub output_full : Text
 output_full = codes "csvtable: the output takes no more for now; is it nonblocking?\n"
 
 abbrev pub no_memory : Text
 no_memory = codes "csvtable: out of memory\n"
 
--- what is said
+-- the text of a message
 abbrev pub text_of : Message → Text
 text_of said.Nothing = []
 text_of said.OutOfMemory = no_memory
@@ -196,7 +197,7 @@ text_of said.WriteFailed = output_unwritten
 text_of said.WouldBlock = output_full
 text_of (said.Text text) = string_bytes text
 
--- P holds of the text that is said, or there is no memory for it
+-- P holds for the text of a message, or there is no memory for the text
 abbrev pub Says : (Text → Type 0) → Message → Type 0
 Says P said.Nothing = ⊥
 Says P said.OutOfMemory = Unit {0}
@@ -205,25 +206,25 @@ Says P said.WriteFailed = ⊥
 Says P said.WouldBlock = ⊥
 Says P (said.Text text) = P (string_bytes text)
 
--- the status is n, and nothing is said
+-- the status is n, and there is no message
 pub record IsSilent (n : ℕ) (ending : Ending) : Type 0 where
   pub status : ending.status ≡ n
   pub silent : ending.said ≡ said.Nothing
 
--- the status is n, and this line, for which no memory is needed, is said on standard error
+-- the status is n, and this line, which needs no memory, is written to standard error
 pub record IsLine (n : ℕ) (line : Message) (ending : Ending) : Type 0 where
   pub status : ending.status ≡ n
   pub is_message : ending.is_message ≡ true
   pub said : ending.said ≡ line
 
--- the status is n, and P holds of what is said on standard error
+-- the status is n, and P holds for the message on standard error
 pub record IsMessage (n : ℕ) (P : Text → Type 0) (ending : Ending) : Type 0 where
   pub status : ending.status ≡ n
   pub is_message : ending.is_message ≡ true
   pub said : Says P ending.said
 
--- the end where the output wasn't written, by the kind of the error: where the reader of a pipe has
--- ended nothing is said
+-- the end if the output wasn't written, by the kind of the error; there is no message if the reader
+-- of a pipe has ended
 abbrev pub IsEndOfUnwritten : Option IoErrorKind → Ending → Type 0
 IsEndOfUnwritten (Some io.BrokenPipe) ending = IsSilent 1 ending
 IsEndOfUnwritten (Some io.WouldBlock) ending = IsLine 1 said.WouldBlock ending
@@ -236,7 +237,7 @@ IsEndOfError drawing err.OutOfMemory ending = IsLine 1 said.OutOfMemory ending
 IsEndOfError drawing e ending =
     IsMessage 1 (λ text. text ≡ message_for drawing.invocation.now drawing.fault e) ending
 
--- the end where nothing was written to a terminal
+-- the end after an empty output to a terminal
 abbrev pub IsEndOfBlank : Invocation → Ending → Type 0
 IsEndOfBlank invocation ending =
     IsMessage 0
@@ -244,8 +245,8 @@ IsEndOfBlank invocation ending =
     invocation.options.input.skip)
     ending
 
--- the end where a drawing was written: nothing is said but of records with more fields than the
--- header, and in a terminal that there are none
+-- The end after a drawing was written. A message lists records with more fields than the header. In
+-- a terminal, a message says that there are no records.
 abbrev pub IsEndOfDrawing : Outcome → Option LongRecords → Ending → Type 0
 IsEndOfDrawing drawing None ending =
     MatchBool drawing.is_blank (IsEndOfBlank drawing.invocation.now ending) (IsSilent 0 ending)
@@ -254,30 +255,30 @@ IsEndOfDrawing drawing (Some longer) ending =
     (λ text. text ≡ longer_line (option_map string_bytes drawing.invocation.now.file) longer)
     ending
 
--- the end of a drawing, by its result
+-- the end after a drawing, by its result
 abbrev pub IsEndOfOutcome : Outcome → Ending → Type 0
 IsEndOfOutcome drawing ending =
     MatchResult drawing.result (λ longer. IsEndOfDrawing drawing longer ending)
     (λ e. IsEndOfError drawing e ending)
 
--- no control character but line feeds, and none that turns the direction of text
+-- line feeds are the only control characters, and no character turns the direction of text
 abbrev pub IsHarmless : Text → Type 0
 IsHarmless text = list_any is_harmful (chars text) ≡ false
 
--- the end where clap prints help or the version
+-- the end after help or the version
 pub record IsHelp (ending : Ending) : Type 0 where
   pub status : ending.status ≡ 0
   pub no_message : ending.is_message ≡ false
   pub said : Says IsHarmless ending.said
 
--- the end where clap has something to say, by its kind
+-- the end if clap has a text to write, by its kind
 abbrev pub IsEndOfRefusal : ErrorKind → Ending → Type 0
 IsEndOfRefusal kind.OutOfMemory ending = IsLine 1 said.OutOfMemory ending
 IsEndOfRefusal kind.DisplayHelp ending = IsHelp ending
 IsEndOfRefusal kind.DisplayVersion ending = IsHelp ending
 IsEndOfRefusal _ ending = IsMessage 2 IsHarmless ending
 
--- the end where arguments couldn't be read, by the kind of fault: one isn't UTF-8, or there is no
+-- the end if the arguments couldn't be read, by the kind of error: one isn't UTF-8, or there is no
 -- memory
 abbrev pub IsEndWithoutArguments : IoErrorKind → Ending → Type 0
 IsEndWithoutArguments io.InvalidData ending = IsLine 2 said.NotUtf8 ending

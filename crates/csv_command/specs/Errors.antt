@@ -1,4 +1,5 @@
--- The error of a drawing, by that of the layer that it comes of: want of memory is one error.
+-- The error of a drawing, for each error of the layers below: each lack of memory is the same
+-- error.
 -- Source: this library's own.
 use Rattle.csv_records.specs.declared.error.DecodeError.{DecodeError}
 use Rattle.csv_records.specs.declared.error.DecodeError.TheVariants as decode

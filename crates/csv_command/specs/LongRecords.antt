@@ -12,26 +12,26 @@ use Rattle.csv_tables.specs.Drawn.{limited}
 use Rattle.csv_tables.specs.declared.selection.Selection.{Selection}
 use Rattle.devices.specs.Outcome.{Beginning, Extent, Whole}
 
--- the records that are drawn, with the header
+-- the records that are drawn, including the header
 abbrev pub drawn_records : Selection → List (List Text) → List (List Text)
 drawn_records selection records =
     limited (option_map (most_drawn selection.has_header) selection.limit) records
 
--- those of a text, if its first record is a header
+-- the report of those drawn records that have more fields than the header, if there is one
 abbrev pub long_records_for : Options → Text → List (List Text) → Option LongRecords
 long_records_for options text records =
     if options.selection.has_header
     then longer_records options.input text (drawn_records options.selection records)
     else None
 
--- those of an input that was read whole
+-- this report for an input that was read whole
 pub record AreLongRecordsOfInput (options : Options) (input : Text)
     (longer : Option LongRecords) : Type 0 where
   pub records : List (List Text)
   pub are_records : AreRecordsFor options.input input records
   pub is : longer ≡ long_records_for options are_records.text records
 
--- those of a beginning which is enough
+-- this report for a beginning that is enough
 pub record AreLongRecordsOfBeginning (options : Options) (beginning : Text)
     (longer : Option LongRecords) : Type 0 where
   pub records : List (List Text)

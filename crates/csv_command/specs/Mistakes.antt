@@ -1,5 +1,5 @@
--- Messages on words in place of a number, an encoding or a delimiter, and on options that are meant
--- otherwise.
+-- Messages about words that are no number, no encoding or no delimiter, and about options that have
+-- another meaning here.
 -- Source: this library's own.
 use Rattle.std.specs.Prelude.{ℕ, pos, ◌-◌, ◌^◌, Bool, false, ◌==◌, ◌||◌, ◌&&◌, nat_le, List, [], ◌∷◌, ◌++◌, Option, Some, None, bytes_eq, codes, decimal, find, length, option_and_then, unwrap_or, if◌then◌else◌}
 use Rattle.std.specs.List.{after_first, before_first, list_any}
@@ -14,76 +14,77 @@ use Rattle.csv_command.specs.Program.{csvtable_rules, encodings}
 use Rattle.csv_command.specs.Styles.{is_named}
 use Rattle.csv_records.specs.Numerals.{number_for}
 
--- what is said of a word that is to be a delimiter and is none
+-- the message about a word that can't be a delimiter
 abbrev pub wrong_delimiter : Text → Text
 wrong_delimiter word =
     codes "a delimiter is `tab`, `spaces`, `auto` or one ASCII character other than "
     ++ codes "a quote or a line end, not '" ++ word ++ codes "'"
 
--- an option's name is this
+-- true if an option has this name
 abbrev pub is_long : Text → Option Text → Bool
 is_long word None = false
 is_long word (Some name) = bytes_eq word name
 
--- an option's letter is this
+-- true if an option has this letter
 abbrev pub is_short : ℕ → Option ℕ → Bool
 is_short b None = false
 is_short b (Some letter) = b == letter
 
--- a word without its first hyphen is an option's name with another hyphen, or its letter
+-- true if the rest of a word after its first hyphen is a hyphen with an option's name, or its
+-- letter
 abbrev pub is_name_of : Text → Rule → Bool
 is_name_of [] rule = false
 is_name_of (b ∷ more) rule =
     if b == 0x2D then is_long more rule.long else length more == 0 && is_short b rule.short
 
--- a word calls an option by its name or its letter
+-- true if a word calls an option by its name or its letter
 abbrev pub is_called : Text → Rule → Bool
 is_called [] rule = false
 is_called (b ∷ more) rule = b == 0x2D && is_name_of more rule
 
--- the greatest number that a value may be
+-- the greatest number that a value may be, if it is a number
 abbrev pub greatest_read : Option ValueParser → Option ℕ
 greatest_read (Some (vp.Signed least (pos greatest))) = Some greatest
 greatest_read (Some (vp.Unsigned least greatest)) = Some greatest
 greatest_read parser = None
 
--- the greatest number that the option which a word calls takes, if it is one of some options
+-- the greatest number of the option that a word calls, among these options
 abbrev pub greatest_within : List (Rule × List Text) → Text → Option ℕ
 greatest_within rules word =
     option_and_then (λ (known : Rule × List Text). greatest_read known.0.parser)
     (find (λ (known : Rule × List Text). is_called word known.0) rules)
 
--- the greatest number that an option of the program takes
+-- the greatest number that an option of the program takes, or `None` if it takes no number
 unfoldable pub greatest_number : Text → Option ℕ
 greatest_number word = greatest_within csvtable_rules word
 
--- a word is a number up to this one; a plus may stand before it
+-- true if a word is a number up to `greatest`; a plus may precede it
 abbrev pub is_number_to : ℕ → Text → Bool
 is_number_to greatest word =
     option_map_or (λ n. nat_le n greatest) (number_for 64 (without_leading_plus word)) false
 
--- what is said of a word that is none
+-- the message about a word that isn't such a number
 abbrev pub number_reason : Text → ℕ → Text → Text
 number_reason option greatest word =
     option
     ++ (codes " takes a number from 0 to "
     ++ (decimal greatest ++ (codes ", not '" ++ (word ++ codes "'"))))
 
--- options behind which other programs have how many records to draw
+-- options of other programs whose value is the number of records to draw
 abbrev pub limits_elsewhere : List Text
 limits_elsewhere =
     codes "-n" ∷ codes "--head" ∷ codes "--max-rows" ∷ codes "--nrows" ∷ codes "--rows" ∷ []
 
--- what is said of such a number
+-- the message about such a number
 abbrev pub limit_reason : Text → Text
 limit_reason word =
     codes "for the first records type --limit " ++ word ++ codes "; -n means no header"
 
--- a name of an encoding, in any case of letters
+-- true for a name of an encoding, in letters of either case
 abbrev pub is_encoding : Text → Bool
 is_encoding word = list_any (λ name. is_named name word) encodings
 
--- what is said of another word behind the option for encodings
+-- the message about another word after the option for encodings
 unfoldable pub encoding_reason : Text → Option Text
 encoding_reason word =
     if length word == 0 || is_encoding word
@@ -92,15 +93,15 @@ encoding_reason word =
     (codes "csvtable reads utf-8, utf-16 and cp1252; for others try iconv -f " ++ word
     ++ codes " FILE | csvtable")
 
--- what wraps nothing
+-- the message about an option of other programs against wrapping
 abbrev pub no_wrap_reason : Text
 no_wrap_reason = codes "-w 0 wraps nothing; -m 1 draws one line for each record"
 
--- what sorts
+-- the message about an option of other programs for sorting
 abbrev pub sort_reason : Text
 sort_reason = codes "csvtable doesn't sort; try mlr --csv sort -nr COLUMN FILE | csvtable"
 
--- what is said of other options, by the word behind them
+-- the message about other options, by the word after them
 abbrev pub reason_without_number : Text → Text → Option Text
 reason_without_number option word =
     if list_any (bytes_eq option) limits_elsewhere && is_number_to (2 ^ 64 - 1) word
@@ -113,7 +114,7 @@ reason_without_number option word =
     then Some sort_reason
     else None
 
--- what is said of an option and a word behind it
+-- the message about an option and the word after it
 abbrev pub reason_of : Text → Text → Option Text
 reason_of option word =
     option_map_or
@@ -124,11 +125,11 @@ reason_of option word =
     (greatest_number option)
     (reason_without_number option word)
 
--- an option and what stands behind it, where that isn't empty
+-- an option and its value, if the value isn't empty
 abbrev pub with_value : Text → Text → Option (Text × Text)
 with_value option value = if length value == 0 then None else Some (option, value)
 
--- an option of one letter and its value in one word, which has lost its hyphen, as `w5`
+-- an option of one letter and its value in one word, without its hyphen, as `w5`
 abbrev pub behind_letter : Text → Option (Text × Text)
 behind_letter rest =
     option_map_or (with_value (codes "-w")) (strip_byte 0x77 rest)
@@ -143,16 +144,16 @@ in_one_word word =
     then Some (before_first (λ b. b == 0x3D) word, after_first (λ b. b == 0x3D) word)
     else option_and_then behind_letter (strip_byte 0x2D word)
 
--- an option and the next word; none is as an empty one
+-- an option and the next word, or an empty word if there is none
 abbrev pub next_given : Text → List Text → Text × Text
 next_given option [] = (option, [])
 next_given option (word ∷ more) = (option, word)
 
--- an option and its value, which stands in the same word or else is the next one
+-- an option and its value, which is in the same word, or is the next word
 abbrev pub given : Text → List Text → Text × Text
 given option more = unwrap_or (in_one_word option) (next_given option more)
 
--- what is said of the first such word; behind `--` no word is an option
+-- the message about the first such word; after `--` no word is an option
 abbrev pub wrong_value : List Text → Option Text
 wrong_value [] = None
 wrong_value (option ∷ more) =

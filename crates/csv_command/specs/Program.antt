@@ -1,4 +1,4 @@
--- The arguments that `csvtable` knows, as clap has them.
+-- The options of `csvtable`, as rules of clap.
 -- Source: this library's own, in the words of the crate clap.
 use Rattle.std.specs.Prelude.{◌≡◌, ℕ, ◌-◌, ◌^◌, pos, true, List, [], ◌∷◌, Option, Some, None, codes, map}
 use Rattle.clap.specs.Words.{App, Rule, new_app, new_rule}
@@ -12,20 +12,20 @@ use Rattle.comfy_parts.specs.Text.{Text}
 abbrev pub option : Text → Option ℕ → Rule
 option name letter = record (new_rule name) { long = Some name; short = letter; value_names = 1 }
 
--- one without a value
+-- an option without a value
 abbrev pub flag : Text → Option ℕ → Rule
 flag name letter =
     record (new_rule name) { long = Some name; short = letter; action = Some SetTrue }
 
--- one without a value that has a letter alone
+-- an option without a value that has only a letter
 abbrev pub letter : Text → ℕ → Rule
 letter name short = record (new_rule name) { short = Some short; action = Some SetTrue }
 
--- one whose value is a number
+-- an option whose value is a number
 abbrev pub number : Text → Option ℕ → ValueParser → Rule
 number name letter parser = record (option name letter) { parser = Some parser }
 
--- one whose value is one of some names
+-- an option whose value is one of some names
 abbrev pub choice : Text → Option ℕ → Rule
 choice name letter = record (option name letter) { parser = Some vp.String }
 
@@ -33,11 +33,11 @@ choice name letter = record (option name letter) { parser = Some vp.String }
 abbrev pub nameless : Rule → Rule × List Text
 nameless rule = (rule, [])
 
--- when something is done
+-- the values of an option that says when something is done
 abbrev pub whens : List Text
 whens = codes "auto" ∷ codes "always" ∷ codes "never" ∷ []
 
--- how an input may be written
+-- the names of encodings
 abbrev pub encodings : List Text
 encodings =
     codes "utf-8"
@@ -83,17 +83,17 @@ csvtable_rules =
     ∷ nameless (flag (codes "ansi") None)
     ∷ []
 
--- what reads a value, without the names that it may be
+-- a value's parser, without the names that it allows
 abbrev pub unnamed : Option ValueParser → Option ValueParser
 unnamed (Some (vp.Names names)) = Some vp.String
 unnamed parser = parser
 
--- the names that a value may be, where it is one of some names
+-- the names that a value's parser allows, if any
 abbrev pub value_names : Option ValueParser → List Text
 value_names (Some (vp.Names names)) = map (λ name. name.now) names.now
 value_names parser = []
 
--- a rule without its names, and these
+-- a rule without these names, and the names
 abbrev pub bare : Rule → Rule × List Text
 bare rule = (record rule { parser = unnamed rule.parser }, value_names rule.parser)
 
@@ -101,8 +101,8 @@ bare rule = (record rule { parser = unnamed rule.parser }, value_names rule.pars
 abbrev pub with_rules : App → List Rule → App
 with_rules app rules = record app { top = record app.top { rules = rules } }
 
--- the program's command without its arguments: it has a version, and of two equal options the last
--- one counts
+-- the program's command without its rules; it has a version, and of two equal options the last one
+-- counts
 abbrev pub wordless : App
 wordless =
     record (new_app (codes "csvtable")) {

@@ -1,5 +1,5 @@
--- What comes of arguments and an input, the output going to no terminal: a drawing, or why there is
--- none.
+-- The result for arguments and an input, if the output goes to no terminal: a drawing, or a reason
+-- for its absence.
 -- Source: this library's own.
 use Rattle.std.specs.Prelude.{◌≡◌, ◌≢◌, ◌⊎◌, false, List, None, string_bytes}
 use Rattle.clap.specs.declared.error.kind.ErrorKind.{ErrorKind}
@@ -16,17 +16,17 @@ use Rattle.csv_command.specs.Run.{IsInputFault}
 use Rattle.csv_command.specs.declared.drawing.Refusal.{Refusal}
 use Rattle.csv_command.specs.declared.drawing.Refusal.TheVariants.{Arguments, Input, OutOfMemory}
 
--- no terminal, and neither COLUMNS nor NO_COLOR
+-- a destination that is no terminal, without COLUMNS and NO_COLOR
 abbrev pub not_a_terminal : OutputContext
 not_a_terminal = record { is_terminal = false; columns = None; no_color = None }
 
--- the output for the input, as the arguments ask for it
+-- `drawing` is the output for the input that the arguments request
 pub record IsRendered (arguments : List Text) (input drawing : Text) : Type 0 where
   pub invocation : Invocation
   pub is_asked : IsParsed arguments not_a_terminal invocation
   pub is_output : RendersInput invocation.options input drawing
 
--- the line on an input that can't be drawn as the arguments ask
+-- `message` is the line about an input that can't be drawn as the arguments request
 pub record IsSaidOfInput (arguments : List Text) (input message : Text) : Type 0 where
   pub invocation : Invocation
   pub is_asked : IsParsed arguments not_a_terminal invocation
@@ -34,26 +34,26 @@ pub record IsSaidOfInput (arguments : List Text) (input message : Text) : Type 0
   pub is_fault : IsInputFault invocation.options input error
   pub is_line : message ≡ message_for invocation None error
 
--- the text on arguments that ask for no drawing
+-- `message` is the text for arguments that request no drawing
 pub record IsSaidOfArguments (arguments : List Text) (message : Text) : Type 0 where
   pub in_vain : ((kind : ErrorKind) × AreNotTaken arguments kind) ⊎ AreFoundInVain arguments
   pub harmless : IsHarmless message
 
--- why there is no drawing
+-- the reason for a missing drawing
 abbrev pub IsRefusedFor : List Text → Text → Refusal → Type 0
 IsRefusedFor arguments input (Arguments message) =
     IsSaidOfArguments arguments (string_bytes message)
 IsRefusedFor arguments input (Input message) = IsSaidOfInput arguments input (string_bytes message)
 IsRefusedFor arguments input OutOfMemory = Unit {0}
 
--- the refusal of arguments for which clap has something to say, by its kind
+-- the refusal of arguments for which clap has a text, by its kind
 abbrev pub IsRefusalByKind : ErrorKind → Refusal → Type 0
 IsRefusalByKind found (Arguments message) =
     (found ≢ kind.OutOfMemory) × IsHarmless (string_bytes message)
 IsRefusalByKind found (Input message) = ⊥
 IsRefusalByKind found OutOfMemory = Unit {0}
 
--- the refusal of an input, by the error that it comes of
+-- the refusal of an input, by its error
 abbrev pub IsRefusalOfInput : Invocation → CsvError → Refusal → Type 0
 IsRefusalOfInput invocation e (Arguments message) = ⊥
 IsRefusalOfInput invocation e (Input message) =

@@ -1,4 +1,4 @@
--- Private: what an argument of the program's table is for clap.
+-- Private: the rule of clap for an option of the program's table.
 -- Source: this library's own, in the words of the crate clap.
 use Rattle.std.specs.Prelude.{ℕ, ◌-◌, ◌^◌, pos, true, List, [], Option, Some, None}
 use Rattle.clap.specs.Words.{Rule, new_rule}
@@ -15,7 +15,7 @@ abbrev pub lettered : Option ℕ → Rule → Rule
 lettered None rule = rule
 lettered (Some letter) rule = record rule { short = Some letter }
 
--- what a kind adds to a rule and its names
+-- a rule and its names, with those that a kind adds
 abbrev pub with_values : Kind → Rule × List Text → Rule × List Text
 with_values kind.Width known =
     (record known.0 { parser = Some (vp.Signed (pos 0) (pos 65535)) }, [])

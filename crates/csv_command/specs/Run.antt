@@ -1,4 +1,4 @@
--- What a call of `draw` ensures, by its result.
+-- The facts after a call of `draw`, by its result.
 -- Source: this library's own.
 use Rattle.std.specs.Prelude.{◌≡◌, ◌≢◌, ◌⊎◌, Bool, true, false, List, [], Result, Ok, Err, IsUtf8}
 use Rattle.comfy_parts.specs.Text.{Text}
@@ -17,18 +17,18 @@ use Rattle.csv_command.specs.declared.error.CsvError.{CsvError}
 use Rattle.csv_command.specs.declared.error.CsvError.TheVariants.{Columns, Decode, OutOfMemory, Read, Records, Write}
 use Rattle.csv_command.specs.declared.arguments.Options.{Options}
 
--- the result says that the source failed
+-- true if the result says that the source failed
 abbrev pub is_read_fault : {T : Type 0} → Result T CsvError → Bool
 is_read_fault (Err Read) = true
 is_read_fault _ = false
 
--- the result says that the sink failed
+-- true if the result says that the sink failed
 abbrev pub is_write_fault : {T : Type 0} → Result T CsvError → Bool
 is_write_fault (Err Write) = true
 is_write_fault _ = false
 
--- what makes an input one that can't be drawn: it has no text, that has no records, or columns of
--- these can't be drawn so
+-- An input can't be drawn for one of three reasons: it has no text, the text has no records, or
+-- columns can't be chosen from these.
 abbrev pub IsInputFault : Options → Text → CsvError → Type 0
 IsInputFault options input (Decode e) =
     (e ≢ decode.OutOfMemory) × IsWithoutText options.input input e
@@ -41,18 +41,18 @@ IsInputFault options input (Columns e) =
     × IsColumnsRefusal e (columns_for options found)
 IsInputFault options input _ = ⊥
 
--- an input that is to be UTF-8 is it, below the lines that are left out
+-- an input that is read as UTF-8 is UTF-8, below the lines that are left out
 abbrev pub IsUtf8IfWanted : Options → Text → Type 0
 IsUtf8IfWanted options input =
     encoding_of options.input.encoding input ≡ Utf8 → IsUtf8 (below_lines options.input.skip input)
 
--- what is known where there was no memory: where a beginning was looked at, that there is a limit,
--- for else the whole input is read
+-- the facts after a lack of memory; if only a beginning was read, there is a limit, since otherwise
+-- the whole input is read
 abbrev pub IsFine : Options → Extent → Text → Type 0
 IsFine options Whole input = IsUtf8IfWanted options input
 IsFine options Beginning input = HasLimit options
 
--- what makes a beginning that is enough one: columns of its records can't be drawn so
+-- a beginning that is enough can't be drawn if columns can't be chosen from its records
 abbrev pub IsBeginningFault : Options → Text → CsvError → Type 0
 IsBeginningFault options beginning (Columns e) =
     (e ≢ columns.OutOfMemory) × (found : List (List Text)) × AreEnough options beginning found
@@ -63,17 +63,18 @@ abbrev pub IsFault : Options → Extent → Text → CsvError → Type 0
 IsFault options Whole input e = IsInputFault options input e
 IsFault options Beginning read e = IsBeginningFault options (whole_lines read) e
 
--- why an input, or what was read of one, has no output: it can't be drawn, or there is no memory
+-- the error for an input, or for the bytes that were read, that has no output: it can't be drawn,
+-- or there is no memory
 abbrev pub IsRefusal : Options → Extent → Text → CsvError → Type 0
 IsRefusal options extent input OutOfMemory = IsFine options extent input
 IsRefusal options extent input e = IsFault options extent input e
 
--- why an input that was read whole has none
+-- the error for an input that was read whole
 abbrev pub IsInputRefusal : Options → Text → CsvError → Type 0
 IsInputRefusal options input e = IsRefusal options Whole input e
 
--- what the facts of a call are, by its result; where there was no memory, none was there for the
--- first piece of the drawing, or for a later one
+-- The facts after a call, by its result. After a lack of memory, it was missing for the first piece
+-- of the drawing, or for a later one.
 abbrev pub IsAfterIn : {T : Type 0} → Options → Result T CsvError → Extent → RunFacts → Type 0
 IsAfterIn options (Ok _) extent facts = IsAfterOk (RendersExtent options extent) facts
 IsAfterIn options (Err Read) extent facts = OfWhole (IsAfterRead facts) extent

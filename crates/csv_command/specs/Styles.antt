@@ -8,11 +8,11 @@ use Rattle.comfy_parts.specs.StyleModifiers.{with_rounded_corners}
 use Rattle.comfy_parts.specs.Text.{Text}
 use Rattle.comfy_parts.specs.declared.style.table_style.TableStyle.{TableStyle}
 
--- an argument is this name, in any case of letters
+-- true if an argument is this name, in letters of either case
 abbrev pub is_named : Text → Text → Bool
 is_named name word = str_eq_ignore_ascii_case name word
 
--- the style without a name
+-- the style if no name is given
 abbrev pub compact_style : TableStyle
 compact_style = with_rounded_corners utf8_full
 
@@ -27,26 +27,26 @@ own_styles =
     ∷ (codes "markdown", ascii_markdown)
     ∷ []
 
--- the names that a style may have
+-- the names of styles
 abbrev pub style_names : List Text
 style_names = map (λ entry. entry.0) own_styles ++ map (λ entry. entry.0) named_presets
 
--- the style of the first of these names that an argument is
+-- the style of the first name that is equal to an argument
 abbrev pub style_within : List (Text × TableStyle) → Text → Option TableStyle
 style_within styles word =
     option_map (λ entry. entry.1) (find (λ entry. is_named entry.0 word) styles)
 
--- the style of a name
+-- the style with a name, or `utf8_full` for another word
 abbrev pub named_style : Text → TableStyle
 named_style word =
     unwrap_or (option_or (style_within own_styles word) (style_within named_presets word)) utf8_full
 
--- the style that is asked for: that of a name, `rounded` without one
+-- the style that is requested: the one with a name, or `rounded` without a name
 abbrev pub style_for : Option Text → TableStyle
 style_for None = compact_style
 style_for (Some word) = named_style word
 
--- the name of a style that has lines between rows only where a row has more than one line
+-- true for the name of a style that has lines between rows only if a row has more than one line
 abbrev pub is_compact : Option Text → Bool
 is_compact None = true
 is_compact (Some word) = is_named (codes "rounded") word || is_named (codes "box") word

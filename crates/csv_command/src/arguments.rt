@@ -1,4 +1,4 @@
-//! The arguments after the program's name, and the options that they give.
+//! The options that the program's arguments give.
 
 ghost use Rattle.std.specs.Prelude.{◌≡◌, ◌≢◌, ◌==◌, IfOk, IfErr, Some, codes, map, option_map, string_bytes};
 ghost use Rattle.std.specs.List.{slice_split};
@@ -18,24 +18,25 @@ use csv_records::{Delimiter, Encoding, InputOptions, only_ascii, parse_digits};
 use csv_tables::{Expansion, Look, Noun, RowSeparators, Selection};
 use std::alloc::{AllocError, Global};
 
-// The width of a terminal that doesn't say its own.
+// The width of a terminal whose width isn't known, in terminal columns.
 const TERMINAL_WIDTH: u16 = 80;
 
-// The reason if a second file is named.
+// The refusal of a second file.
 const ONE_FILE: &str = "csvtable draws one file; try mlr --csv cat FILE FILE | csvtable";
 
-/// How an input is read, which of its records and columns are drawn, and how.
+/// Options for reading an input, for selecting its records and columns, and for drawing them.
 #[derive(Debug)]
 pub struct Options {
-    /// How the input is read.
+    /// The options for reading the input.
     pub input: InputOptions,
-    /// Whether an input is read to its end if there is a limit, to say how many records it has.
+    /// True if an input is read to its end although there is a limit, so that its records can be
+    /// counted.
     pub counts_all: bool,
-    /// Which records are drawn.
+    /// The records that are drawn.
     pub selection: Selection,
-    /// Which columns are drawn.
+    /// The columns that are drawn, as words.
     pub columns: ColumnWords,
-    /// How the table looks.
+    /// The look of the table.
     pub look: Look,
 }
 
@@ -51,12 +52,12 @@ impl Drop for Options {
     }
 }
 
-/// The options that the arguments give.
+/// The options and the file that the arguments give.
 #[derive(Debug)]
 pub struct Invocation {
-    /// How the records are drawn.
+    /// The options for the drawing.
     pub options: Options,
-    /// The file to read; standard input if there is none.
+    /// The file to read, or `None` for standard input.
     pub file: Option<String>,
 }
 
@@ -69,21 +70,25 @@ impl Drop for Invocation {
     }
 }
 
-/// Facts on the place where the output goes.
+/// Facts about the destination of the output.
 #[derive(Clone, Copy, Debug)]
 pub struct OutputContext<'a> {
-    /// Whether standard output is a terminal.
+    /// True if standard output is a terminal.
     pub is_terminal: bool,
-    /// `COLUMNS` of the environment, if that is text.
+    /// The variable `COLUMNS` of the environment, if it is UTF-8.
     pub columns: Option<&'a str>,
-    /// `NO_COLOR` of the environment, if that is text.
+    /// The variable `NO_COLOR` of the environment, if it is UTF-8.
     pub no_color: Option<&'a str>,
 }
 
-/// What these arguments ask for; the first one is the program's name. Help, the version and
-/// arguments that aren't known are returned as errors, as clap has them, and so is a delimiter that
-/// is none. Of two options that say different things of one, the last one counts. All that is asked
-/// for follows from the values that clap finds for the program's options, and from the context.
+/// Reads the arguments; the first one is the program's name. Of two options that contradict each
+/// other, the last one counts. Options follow only from the values that clap finds in the
+/// arguments, and from the context.
+///
+/// # Errors
+///
+/// Help, the version and unknown arguments are clap's errors, and a word that can't be a delimiter
+/// is one too. Otherwise memory ran out.
 pub fn parse<'a>(
     alloc: Global,
     arguments: &'a [&'a str],
@@ -119,7 +124,7 @@ fn parse_by<'a>(
     }
 }
 
-// A refusal of a word that is to be a delimiter.
+// The refusal of a word that can't be a delimiter.
 fn without_delimiter<'a>(alloc: Global, command: &mut Command<'a>, word: Option<&str>) -> Error
     ensures { (kind_of result ≢ OutOfMemory) → kind_of result ≡ InvalidValue }
 {
@@ -129,8 +134,8 @@ fn without_delimiter<'a>(alloc: Global, command: &mut Command<'a>, word: Option<
     }
 }
 
-// A refusal by clap, in our own words if a number or an encoding is wrong, or an argument isn't
-// known.
+// A refusal by clap. Its message is replaced by our own if a number or an encoding is wrong, or an
+// argument isn't known.
 fn with_clearer_message<'a>(
     alloc: Global,
     command: &mut Command<'a>,
@@ -153,7 +158,7 @@ fn with_clearer_message<'a>(
     }
 }
 
-// A refusal by clap without its tip on values. No clause knows clap's words.
+// A refusal by clap without clap's tip on values. No clause describes clap's words.
 fn without_useless_tip<'a>(alloc: Global, command: &mut Command<'a>, error: Error) -> Error
     ensures { (kind_of result ≢ OutOfMemory) → kind_of result ≡ kind_of error }
 {
@@ -166,8 +171,8 @@ fn without_useless_tip<'a>(alloc: Global, command: &mut Command<'a>, error: Erro
     }
 }
 
-// What is said in place of clap's text: that there is one file, if its text is on another one, or
-// what precedes its tip to pass an option as a value.
+// A clearer reason than clap's text. For a second file it is `ONE_FILE`. If clap gives a tip to
+// pass an option as a value, it is the text before this tip.
 fn clearer_reason(said: &str) -> Option<&str> {
     let rest = said.strip_prefix("error: ")?;
     if rest.starts_with("unexpected argument '") && !rest.starts_with("unexpected argument '-") {
@@ -177,7 +182,7 @@ fn clearer_reason(said: &str) -> Option<&str> {
     Some(reason.trim_ascii_end())
 }
 
-// What the matches ask for, the delimiter being known.
+// The options and the file of the matches, for a delimiter that is known.
 fn invocation_of<'a>(
     alloc: Global,
     matches: &ArgMatches<'a>,
@@ -196,7 +201,7 @@ fn invocation_of<'a>(
     })
 }
 
-// The arguments are refused for this reason.
+// A refusal of the arguments for this reason.
 fn refusal<'a>(command: &mut Command<'a>, kind: ErrorKind, reason: &str) -> Error
     ensures { (kind_of result ≢ OutOfMemory) → kind_of result ≡ kind }
 {
@@ -204,7 +209,7 @@ fn refusal<'a>(command: &mut Command<'a>, kind: ErrorKind, reason: &str) -> Erro
     said.unwrap_or_else(Error::from)
 }
 
-// Whether a table for Markdown is asked for.
+// True if a table for Markdown is requested.
 fn is_markdown<'a>(matches: &ArgMatches<'a>) -> bool
     ensures { result ≡ is_markdown_in (found_of matches.now) }
 {
@@ -214,21 +219,22 @@ fn is_markdown<'a>(matches: &ArgMatches<'a>) -> bool
             .is_some_and(|style| is_named("markdown", style))
 }
 
-// Whether a flag is set, or an option has a value.
+// True if a flag is set, or an option has a value.
 fn is_given<'a>(matches: &ArgMatches<'a>, id: &str) -> bool
     ensures { result ≡ is_given (found_of matches.now) id.now }
 {
     matches.get_str(id).is_some_and(|value| value != "false")
 }
 
-// Whether an option is given, and the other one isn't given after it.
+// True if an option is given, and the other one isn't given after it.
 fn is_given_last<'a>(matches: &ArgMatches<'a>, id: &str, other: &str) -> bool
     ensures { result ≡ is_given_last (found_of matches.now) id.now other.now }
 {
     is_given(matches, id) && !(is_given(matches, other) && is_behind(matches, id, other))
 }
 
-// Whether the other option was used after this one: clap has them in the order of their last uses.
+// True if the other option was used after this one. Clap lists options in the order of their last
+// uses.
 fn is_behind<'a>(matches: &ArgMatches<'a>, id: &str, other: &str) -> bool
     ensures { result ≡ is_behind id.now other.now (ids_in (found_of matches.now)) }
 {
@@ -242,7 +248,7 @@ fn is_behind<'a>(matches: &ArgMatches<'a>, id: &str, other: &str) -> bool
     false
 }
 
-// The file that an argument names; none for standard input.
+// The file that an argument names, or `None` for standard input.
 fn file_of(alloc: Global, word: Option<&str>) -> Result<Option<String>, AllocError>
     ensures { IfOk result (λ file. option_map string_bytes file
         ≡ file_for (option_map (λ w. w.now) word.entry)) }
@@ -253,7 +259,7 @@ fn file_of(alloc: Global, word: Option<&str>) -> Result<Option<String>, AllocErr
     }
 }
 
-// The delimiter between fields.
+// The delimiter that the options set.
 fn wanted_delimiter<'a>(matches: &ArgMatches<'a>) -> Option<Delimiter>
     ensures { result ≡ wanted_delimiter (found_of matches.now) }
 {
@@ -264,7 +270,8 @@ fn wanted_delimiter<'a>(matches: &ArgMatches<'a>) -> Option<Delimiter>
     }
 }
 
-// What an argument asks for, of a file with this name.
+// The delimiter for an argument, and for a file with this name. `None` if the argument can't be
+// one.
 fn delimiter_of(word: Option<&str>, file: Option<&str>) -> Option<Delimiter>
     ensures { result ≡ delimiter_for (option_map (λ w. w.now) word.entry)
         (option_map (λ f. f.now) file.entry) }
@@ -280,7 +287,7 @@ fn delimiter_of(word: Option<&str>, file: Option<&str>) -> Option<Delimiter>
     }
 }
 
-// What is taken for a file of this name if no argument says more.
+// The delimiter for a file with this name, if no argument sets it.
 fn delimiter_by(file: Option<&str>) -> Delimiter
     ensures { result ≡ delimiter_by (option_map (λ f. f.now) file.entry) }
 {
@@ -290,7 +297,7 @@ fn delimiter_by(file: Option<&str>) -> Delimiter
     }
 }
 
-// Whether a path ends so, in any case of letters.
+// True if a path ends with `end`, in letters of either case.
 fn has_end(path: &str, end: &str) -> bool
     ensures { result ≡ has_end end.now path.now }
 {
@@ -298,7 +305,7 @@ fn has_end(path: &str, end: &str) -> bool
     bytes[bytes.len().saturating_sub(end.len())..].eq_ignore_ascii_case(end.as_bytes())
 }
 
-// The encoding of this name, which is one of those that `command` knows.
+// The encoding with this name, which is one of the names that `command` knows.
 fn encoding_of(name: Option<&str>) -> Option<Encoding>
     ensures { result ≡ encoding_for (option_map (λ n. n.now) name.entry) }
 {
@@ -316,7 +323,7 @@ fn is_utf16(name: &str) -> bool
     is_named("utf-16", name) || is_named("utf16", name) || is_named("utf-16le", name)
 }
 
-// What the matches ask for.
+// The options of the matches.
 fn options_of<'a>(
     alloc: Global,
     matches: &ArgMatches<'a>,
@@ -396,7 +403,7 @@ fn look_of<'a>(matches: &ArgMatches<'a>, context: OutputContext<'_>) -> Look
     }
 }
 
-// Where lines between rows are drawn.
+// The setting for lines between rows.
 fn separators_of(has_rows: bool, has_none: bool, style: Option<&str>) -> RowSeparators
     ensures { result ≡ separators_for has_rows has_none
         (option_map (λ name. name.now) style.entry) }
@@ -412,7 +419,7 @@ fn separators_of(has_rows: bool, has_none: bool, style: Option<&str>) -> RowSepa
     }
 }
 
-// When a record is drawn as a table of its own.
+// The setting for drawing a record as a table of its own.
 fn expansion_of(is_always: bool, word: Option<&str>) -> Expansion
     ensures { result ≡ expansion_for is_always (option_map (λ w. w.now) word.entry) }
 {
@@ -424,7 +431,7 @@ fn expansion_of(is_always: bool, word: Option<&str>) -> Expansion
     }
 }
 
-// The width that was asked for, else that of the terminal; 0 is none.
+// The width that is set, or else that of the terminal. A width of 0 means that there is none.
 fn width_of(wanted: Option<u16>, context: OutputContext<'_>) -> Option<u16>
     ensures { result ≡ width_for wanted context.entry }
 {
@@ -441,7 +448,7 @@ fn some_width(width: u16) -> Option<u16>
     (width != 0).then_some(width)
 }
 
-// The width of a terminal that has this as `COLUMNS`.
+// The width of a terminal with this value of `COLUMNS`.
 fn terminal_width(columns: Option<&str>) -> u16
     ensures { result ≡ terminal_width (option_map (λ c. c.now) columns.entry) }
 {
@@ -451,7 +458,7 @@ fn terminal_width(columns: Option<&str>) -> u16
     columns.unwrap_or(TERMINAL_WIDTH)
 }
 
-// This many terminal columns, if a width can be so great.
+// A number of terminal columns, if it isn't 0 and fits a width.
 fn some_columns(columns: usize) -> Option<u16>
     ensures { result ≡ some_columns columns }
 {
@@ -468,7 +475,7 @@ fn is_bold(word: Option<&str>, context: OutputContext<'_>) -> bool
     }
 }
 
-// Whether the header is in bold if nothing says when.
+// True if the header is in bold when no option says so: in a terminal, if colours are wanted.
 fn is_bold_there(context: OutputContext<'_>) -> bool
     ensures { result ≡ is_bold_there context.entry }
 {
@@ -481,7 +488,7 @@ fn wants_color(no_color: Option<&str>) -> bool
     no_color.is_none_or(|text| text.is_empty())
 }
 
-// The words of a list; none without a list.
+// The words of a list, or no words without a list.
 fn words_of(alloc: Global, list: Option<&str>) -> Result<Vec<String>, AllocError>
     ensures { IfOk result (λ words. map string_bytes words.items
         ≡ words_in (option_map (λ l. l.now) list.entry)) }

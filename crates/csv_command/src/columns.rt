@@ -1,4 +1,4 @@
-//! Which columns the words of arguments choose.
+//! The columns that the words of arguments choose.
 
 ghost use Rattle.std.specs.Prelude.{◌≡◌, ◌<◌, ◌≤◌, ◌-◌, ◌^◌, IfOk, IfErr, IfSome, Ok, length, string_bytes};
 ghost use Rattle.std.specs.List.{range_with_len};
@@ -10,21 +10,21 @@ use csv_records::{Record, parse_digits};
 use csv_tables::{Columns, name_at};
 use std::alloc::{AllocError, Global};
 
-/// Columns by words. Several words that are a name if commas join them choose the first column of
-/// that name. Otherwise a word is the number of a column that is there, counted from 1, else a
-/// name, else a range around a hyphen. Each end of a range is such a number, else a name; nothing
-/// after the hyphen means the last column. Of several hyphens the first one counts around which
-/// both ends are there, in order.
+/// Columns, given by words. Several words choose the first column whose name they are when they are
+/// joined by commas. Otherwise each word is tried as the number of a column, counted from 1, then
+/// as a name, and then as a range with a hyphen. Each end of a range is such a number or a name;
+/// nothing after the hyphen means the last column. Of several hyphens, the first one counts that
+/// has existing columns on both sides, in order.
 #[derive(Debug)]
 pub struct ColumnWords {
     /// The columns in the order in which they are drawn. If there are none, all are drawn up to the
     /// last that has a name or a field that isn't empty.
     pub chosen: Vec<String>,
-    /// Columns that aren't drawn.
+    /// The columns that aren't drawn.
     pub dropped: Vec<String>,
-    /// Columns that are at the right.
+    /// The columns that are right-aligned.
     pub right: Vec<String>,
-    /// Columns that are at the left; one that is in both lists is refused.
+    /// The columns that are left-aligned. A column in both lists is refused.
     pub left: Vec<String>,
 }
 
@@ -39,19 +39,23 @@ impl Drop for ColumnWords {
     }
 }
 
-/// How many columns a header and rows have.
+/// The numbers of columns of a header and rows.
 #[derive(Clone, Copy)]
 pub(crate) struct Counts {
     pub(crate) all: usize,
-    /// How many there are up to the last that has a name or a field that isn't empty. These are
-    /// drawn if none is chosen.
+    /// The columns up to the last that has a name or a field that isn't empty. They are drawn if
+    /// none is chosen.
     pub(crate) filled: usize,
 }
 
-/// The columns that words choose of this many under these names. `NoColumn` has the first word that
-/// chooses no column that is there, in the list of columns, then in those of the dropped ones, of
-/// the right and of the left. `NoneLeft` comes before those of the right. `TwoSides` has the first
-/// column of the right that is at the left too.
+/// The positions of the columns that words choose, of `counts.all` columns with these names.
+///
+/// # Errors
+///
+/// `NoColumn` has the first word that chooses no existing column. The chosen columns are tried
+/// first, then the dropped ones, the right-aligned and the left-aligned ones. `NoneLeft` comes
+/// before the errors of the last two lists. `TwoSides` has the first right-aligned column that is
+/// left-aligned too.
 pub(crate) fn columns_of(
     alloc: Global,
     names: &Record<'_>,
@@ -72,7 +76,7 @@ pub(crate) fn columns_of(
     Ok(Columns::new(drawn, right, left))
 }
 
-// The first column at the right that is at the left too.
+// The first right-aligned column that is left-aligned too.
 fn at_two_sides(right: &[usize], left: &[usize]) -> Option<usize>
     ensures { result ≡ at_two_sides right.now left.now }
 {
@@ -82,7 +86,7 @@ fn at_two_sides(right: &[usize], left: &[usize]) -> Option<usize>
         .find(|position| left.contains(position))
 }
 
-// The positions of the chosen columns, without those that are left out; there has to be one.
+// The positions of the chosen columns without the dropped ones. At least one must be left.
 fn kept_columns(
     alloc: Global,
     words: &ColumnWords,
@@ -133,7 +137,8 @@ fn chosen_columns(
     }
 }
 
-// The positions that some words choose: that of the name which all of them are, else those of each.
+// The positions that words choose: that of the name which they are together, or else those of each
+// word.
 fn positions_of(
     alloc: Global,
     words: &[String],
@@ -151,7 +156,8 @@ fn positions_of(
     }
 }
 
-// The position of the first name that several words are, with commas between them.
+// The position of the first name that is equal to the words joined by commas, if there are several
+// words.
 fn whole_name(
     alloc: Global,
     words: &[String],
@@ -167,7 +173,7 @@ fn whole_name(
     Ok(position_named(names, name.as_str()))
 }
 
-// The positions that each of some words chooses, in their order.
+// The positions that each word chooses, in the order of the words.
 fn positions_of_each(
     alloc: Global,
     words: &[String],
@@ -208,8 +214,8 @@ fn positions_of_word(
     }
 }
 
-// The columns that a word chooses, as the position of the first and the one after the last: a
-// single one, else those around a hyphen.
+// The columns that a word chooses: a single one, or else a range. They are given as the position of
+// the first one, and the position after the last one.
 fn columns_chosen(names: &Record<'_>, count: usize, word: &str) -> Option<(usize, usize)>
     ensures value { result ≡ columns_chosen names.now count word.now }
     ensures ordered { IfSome result (λ ends. ends.0 ≤ ends.1) }
@@ -220,7 +226,8 @@ fn columns_chosen(names: &Record<'_>, count: usize, word: &str) -> Option<(usize
     }
 }
 
-// The position of a column: that of its number where it is there, else the first of its name.
+// The position of the column with this number, if it exists, or else of the first one with this
+// name.
 fn column_of(names: &Record<'_>, count: usize, word: &str) -> Option<usize>
     ensures value { result ≡ column_of names.now count word.now }
     ensures below { IfSome result (λ position. position < 2 ^ 64 - 1) }
@@ -233,7 +240,7 @@ fn column_of(names: &Record<'_>, count: usize, word: &str) -> Option<usize>
     position_named(names, word)
 }
 
-// The position of the column with a number, where it is there.
+// The position of the column with this number, if it exists.
 fn column_numbered(count: usize, number: usize) -> Option<usize>
     ensures value { result ≡ column_numbered count number }
     ensures below { IfSome result (λ position. position < 2 ^ 64 - 1) }
@@ -241,7 +248,7 @@ fn column_numbered(count: usize, number: usize) -> Option<usize>
     number.checked_sub(1).filter(|position| *position < count)
 }
 
-// The columns around the first hyphen around which both ends are there, in order.
+// The range at the first hyphen that has existing columns on both sides, in order.
 fn range_of(names: &Record<'_>, count: usize, word: &str) -> Option<(usize, usize)>
     ensures value { result ≡ range_of names.now count word.now }
     ensures ordered { IfSome result (λ ends. ends.0 ≤ ends.1) }
@@ -254,7 +261,7 @@ fn range_of(names: &Record<'_>, count: usize, word: &str) -> Option<(usize, usiz
     None
 }
 
-// The columns around a hyphen that is at a place.
+// The range at a hyphen at this place.
 fn range_at(names: &Record<'_>, count: usize, word: &str, at: usize) -> Option<(usize, usize)>
     requires { at < length word.now }
     ensures value { result ≡ range_at names.now count word.now at }
@@ -272,7 +279,7 @@ fn range_at(names: &Record<'_>, count: usize, word: &str, at: usize) -> Option<(
     }
 }
 
-// The position after the last column of a range, by the text after its hyphen.
+// The position after the last column of a range, given the text after its hyphen.
 fn end_of(names: &Record<'_>, count: usize, word: &str) -> Option<usize>
     ensures { result ≡ end_of names.now count word.now }
 {
@@ -283,7 +290,7 @@ fn end_of(names: &Record<'_>, count: usize, word: &str) -> Option<usize>
     }
 }
 
-// The positions from one on, before another.
+// The positions from `start` on, before `end`.
 fn positions_between(alloc: Global, start: usize, end: usize) -> Result<Vec<usize>, AllocError>
     requires { start ≤ end }
     ensures { IfOk result (λ positions. positions.items ≡ range_with_len start (end - start)) }

@@ -1,4 +1,4 @@
-//! The drawing for arguments and an input, both as values.
+//! The drawing for arguments and an input, all of them values.
 
 ghost use Rattle.std.specs.Prelude.{◌≡◌, IfErr, IfOk, map, string_bytes};
 ghost use Rattle.clap.specs.Words.{kind_of};
@@ -13,22 +13,22 @@ use crate::transfer::output_of_input;
 use clap::error::{Error, ErrorKind};
 use std::alloc::{AllocError, Global};
 
-// Where the output goes that a caller gets as a value: to no terminal, whatever the environment
-// says.
+// The destination of an output that a caller gets as a value: no terminal, and an empty
+// environment.
 const NOT_A_TERMINAL: OutputContext<'static> = OutputContext {
     is_terminal: false,
     columns: None,
     no_color: None,
 };
 
-/// Why arguments and an input have no drawing.
+/// The reason for a missing drawing.
 #[derive(Debug, Drop)]
 pub enum Refusal {
-    /// The arguments ask for no drawing. The text is what `csvtable` says then; help and the
-    /// version are such texts.
+    /// The arguments request no drawing. The text is the one that `csvtable` writes instead; help
+    /// and the version are such texts.
     Arguments(String),
-    /// The input can't be drawn as the arguments ask. The text is the line that `csvtable` writes
-    /// on standard error.
+    /// The input can't be drawn as the arguments request. The text is the line that `csvtable`
+    /// writes on standard error.
     Input(String),
     /// Memory ran out.
     OutOfMemory,
@@ -42,12 +42,12 @@ impl From<AllocError> for Refusal {
     }
 }
 
-/// What `csvtable` writes for these arguments where the input is these bytes. The first argument is
-/// the program's name. The output goes to no terminal, and the environment has neither `COLUMNS`
-/// nor `NO_COLOR`.
+/// Returns the output of `csvtable` for these arguments and this input. The first argument is the
+/// program's name. The output goes to no terminal, and the environment has neither `COLUMNS` nor
+/// `NO_COLOR`.
 ///
-/// No file is opened: an argument for one names the input in messages, and its end may tell what
-/// is between fields.
+/// No file is opened. An argument for a file names the input in messages, and its extension may set
+/// the delimiter.
 ///
 /// ```
 /// let drawing = render_csv(rt.alloc(), &["csvtable", "-s", "grid"], b"name,days\noats,3\n")?;
@@ -73,7 +73,7 @@ pub fn render_csv<'a>(
     }
 }
 
-// The refusal of arguments for which clap has something to say.
+// The refusal of arguments for which clap has a text.
 fn refusal_of_arguments(alloc: Global, error: &Error) -> Refusal
     ensures { IsRefusalByKind (kind_of error.now) result }
 {
@@ -86,7 +86,7 @@ fn refusal_of_arguments(alloc: Global, error: &Error) -> Refusal
     }
 }
 
-// The refusal of an input for which there was this error.
+// The refusal of an input after this error.
 fn refusal_of_input(alloc: Global, invocation: &Invocation, error: &CsvError) -> Refusal
     ensures { IsRefusalOfInput invocation.now error.now result }
 {

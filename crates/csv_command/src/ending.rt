@@ -1,4 +1,4 @@
-//! How the program ends: its status and its message. `process` ends so.
+//! The end of the program: its status and its message. `process` carries it out.
 
 ghost use Rattle.std.specs.Prelude.{◌≡◌, ◌++◌, IfErr, IfOk, OnOk, option_map, string_bytes, true};
 ghost use Rattle.clap.specs.Words.{kind_of};
@@ -12,12 +12,12 @@ use csv_records::{DecodeError, Encoding, LongRecords, NotText, RecordsError, sho
 use std::alloc::{AllocError, Global};
 use std::io;
 
-// The statuses that aren't success.
+// The statuses other than 0, which means success.
 const FAILED: u8 = 1;
 
 const MISUSED: u8 = 2;
 
-// Commands that open compressed files.
+// Messages with commands that open compressed files.
 const GZIP: &str = "compressed by gzip; try zcat FILE | csvtable";
 
 const XZ: &str = "compressed by xz; try xzcat FILE | csvtable";
@@ -28,7 +28,7 @@ const BZIP2: &str = "compressed by bzip2; try bzcat FILE | csvtable";
 
 const ZIP: &str = "a zip archive; try unzip -p FILE | csvtable, or save a spreadsheet as CSV";
 
-// Commands that make text of other files.
+// Messages with commands that convert other files to text.
 const PDF: &str = "a PDF document; try pdftotext -layout FILE - | csvtable -d spaces";
 
 const JSON: &str = "looks like JSON; try mlr --ijson --ocsv unsparsify FILE | csvtable; \
@@ -36,18 +36,18 @@ const JSON: &str = "looks like JSON; try mlr --ijson --ocsv unsparsify FILE | cs
 
 const HTML: &str = "an HTML page, perhaps one that asks for a login; -e utf-8 reads it anyway";
 
-// Why there is no drawing if memory ran out.
+// The reason for a missing drawing if memory ran out.
 const OUT_OF_MEMORY: &str = "out of memory";
 
-/// The line where an argument isn't UTF-8.
+/// The line for an argument that isn't UTF-8.
 pub const ARGUMENT_NOT_UTF8: &str = "csvtable: an argument isn't UTF-8\n";
 
-/// How the program ends.
+/// The end of the program.
 #[derive(Drop)]
 pub(crate) struct Ending {
     /// The status.
     pub status: u8,
-    /// Whether the message goes to standard error.
+    /// True if the message goes to standard error, and false if it goes to standard output.
     pub is_message: bool,
     /// The message.
     pub said: Message,
@@ -58,17 +58,17 @@ pub(crate) struct Ending {
 pub(crate) enum Message {
     Nothing,
     OutOfMemory,
-    /// That an argument isn't UTF-8.
+    /// An argument isn't UTF-8.
     NotUtf8,
-    /// That the output can't be written.
+    /// The output can't be written.
     WriteFailed,
-    /// That it takes no more for now.
+    /// The output takes no more for now.
     WouldBlock,
     Text(String),
 }
 
 impl Message {
-    /// The text that is said.
+    /// The text of the message.
     pub(crate) fn text(&self) -> &str
         ensures { result.now ≡ text_of self.now }
     {
@@ -84,22 +84,23 @@ impl Message {
     }
 }
 
-/// The outcome of a drawing.
+/// The result of a run that draws.
 #[derive(Drop)]
 pub(crate) struct Outcome<'a> {
-    /// The arguments as they were read.
+    /// The options and the file of the run.
     pub invocation: &'a Invocation,
-    /// Whether it was written, and then which of its records are too long.
+    /// The records with more fields than the header, if the drawing was written and has some, or an
+    /// error.
     pub result: Result<Option<LongRecords>, CsvError>,
-    /// With which error the input couldn't be opened or read.
+    /// The error on opening or reading the input, if there was one.
     pub fault: Option<io::ErrorKind>,
-    /// With which error the output couldn't be written.
+    /// The error on writing the output, if there was one.
     pub output_fault: Option<io::ErrorKind>,
-    /// Whether nothing was written, and a terminal would have shown it.
+    /// True if nothing was written to standard output, and this is a terminal.
     pub is_blank: bool,
 }
 
-/// How the program ends after a drawing.
+/// The end of the program after a drawing.
 pub(crate) fn ending_of_outcome(alloc: Global, drawing: &Outcome<'_>) -> Ending
     ensures { IsEndOfOutcome drawing.now result }
 {
@@ -119,7 +120,7 @@ pub(crate) fn ending_of_outcome(alloc: Global, drawing: &Outcome<'_>) -> Ending
     }
 }
 
-// How it ends if a terminal shows nothing.
+// The end after an empty output to a terminal.
 fn ending_of_blank(alloc: Global, invocation: &Invocation) -> Ending
     ensures { IsEndOfBlank invocation.now result }
 {
@@ -128,8 +129,7 @@ fn ending_of_blank(alloc: Global, invocation: &Invocation) -> Ending
     ending_with(0, said)
 }
 
-// How it ends where the output wasn't written. Where the reader of a pipe has ended, nothing is
-// said.
+// The end if the output wasn't written. There is no message if the reader of a pipe has ended.
 fn ending_of_unwritten(fault: Option<io::ErrorKind>) -> Ending
     ensures { IsEndOfUnwritten fault result }
 {
@@ -140,8 +140,8 @@ fn ending_of_unwritten(fault: Option<io::ErrorKind>) -> Ending
     }
 }
 
-/// How the program ends where clap has something to say: help, the version, or why arguments aren't
-/// known.
+/// The end of the program if clap has a text to write: help, the version, or a refusal of
+/// arguments.
 pub(crate) fn ending_of_refusal(alloc: Global, error: &Error) -> Ending
     ensures { IsEndOfRefusal (kind_of error.now) result }
 {
@@ -156,7 +156,7 @@ pub(crate) fn ending_of_refusal(alloc: Global, error: &Error) -> Ending
     }
 }
 
-/// How the program ends where arguments couldn't be read: one isn't UTF-8, or there is no memory
+/// The end of the program if the arguments couldn't be read: one isn't UTF-8, or there is no memory
 /// for them.
 pub(crate) fn ending_without_arguments(kind: io::ErrorKind) -> Ending
     ensures { IsEndWithoutArguments kind result }
@@ -187,7 +187,7 @@ fn ending_with(status: u8, said: Message) -> Ending
     }
 }
 
-// A text, or that there is no memory for it.
+// The message for a text, or for a lack of memory.
 fn message_of_text(text: Result<String, AllocError>) -> Message
     ensures text { IfOk text (λ t. result ≡ Text t) }
     ensures no_memory { IfErr text (λ _. result ≡ OutOfMemory) }
@@ -198,7 +198,7 @@ fn message_of_text(text: Result<String, AllocError>) -> Message
     }
 }
 
-// The line on an input without records.
+// The line about an input without records.
 fn blank_line(alloc: Global, file: &Option<String>, skip: usize) -> Result<String, AllocError>
     ensures { IfOk result (λ text. string_bytes text
         ≡ blank_line (option_map string_bytes file.now) skip) }
@@ -213,7 +213,7 @@ fn blank_line(alloc: Global, file: &Option<String>, skip: usize) -> Result<Strin
     Ok(text)
 }
 
-// The line on records that have more fields than the header.
+// The line about records that have more fields than the header.
 fn longer_line(
     alloc: Global,
     file: &Option<String>,
@@ -240,7 +240,7 @@ fn longer_line(
     Ok(text)
 }
 
-// Appends what to type if other lines are above a table.
+// Appends a hint if other lines are above the table.
 fn push_preamble_hint(
     alloc: Global,
     text: &mut String,
@@ -256,15 +256,16 @@ fn push_preamble_hint(
     text.push_str(hint.as_str())
 }
 
-// How to leave out the lines above one.
+// A hint to leave out the lines above `line`.
 fn skip_hint(alloc: Global, line: u64) -> Result<String, AllocError>
     ensures { IfOk result (λ text. string_bytes text ≡ skip_hint line) }
 {
     format!(in alloc; "; try --skip {}", line.saturating_sub(1))
 }
 
-// Whether other lines are above a table that begins with these records: all that follow have more
-// fields, and not only one for a delimiter at their ends.
+// True if these records are below other lines, which aren't part of the table. Then all records
+// that follow have more fields than the first one. A single additional field isn't enough, unless
+// the first record has only one: it may come from a delimiter at the end of each line.
 fn is_below_preamble(longer: LongRecords) -> bool
     ensures { result ≡ is_below_preamble longer }
 {
@@ -272,7 +273,7 @@ fn is_below_preamble(longer: LongRecords) -> bool
     longer.lasts && (longer.first_fields == 1 || more > 1)
 }
 
-// Appends how many other records have more.
+// Appends the number of other records with more fields.
 fn push_others(alloc: Global, text: &mut String, others: usize) -> Result<(), AllocError>
     ensures { OnOk result (string_bytes text.new ≡ string_bytes text.old ++ others_counted others) }
 {
@@ -286,7 +287,7 @@ fn push_others(alloc: Global, text: &mut String, others: usize) -> Result<(), Al
     text.push_str(counted.as_str())
 }
 
-/// The line on an error. The fault is that of the input where it can't be opened or read.
+/// The line about an error. `fault` is the error on opening or reading the input, if there was one.
 pub(crate) fn message_of(
     alloc: Global,
     invocation: &Invocation,
@@ -302,7 +303,7 @@ pub(crate) fn message_of(
     Ok(text)
 }
 
-// Whether an error is of the input, so that its message names it.
+// True if an error is one of the input. Its message then names the input.
 fn is_of_input(error: &CsvError) -> bool
     ensures { result ≡ is_of_input error.now }
 {
@@ -324,8 +325,8 @@ fn about(alloc: Global, is_of_input: bool, file: &Option<String>) -> Result<Stri
     }
 }
 
-/// The message before the input is read: that it is waited for, if no file is named and
-/// standard input is a terminal.
+/// The message before the input is read. If no file is named and standard input is a terminal, it
+/// says that the program waits for input.
 pub(crate) fn waiting_notice(file: &Option<String>, is_terminal: bool) -> &'static str
     ensures { result.now ≡ waiting_notice (option_map string_bytes file.now) is_terminal }
 {
@@ -335,7 +336,7 @@ pub(crate) fn waiting_notice(file: &Option<String>, is_terminal: bool) -> &'stat
     }
 }
 
-// Why there is no drawing.
+// The reason for a missing drawing.
 fn reason_of(
     alloc: Global,
     encoding: Option<Encoding>,
@@ -354,7 +355,7 @@ fn reason_of(
     }
 }
 
-// Why an input has no text.
+// The reason for an input without text.
 fn decoding_reason(
     alloc: Global,
     encoding: Option<Encoding>,
@@ -377,7 +378,7 @@ fn decoding_reason(
     }
 }
 
-// The kind of an input that is no text in UTF-8, and a hint.
+// The kind of an input that isn't UTF-8 text, with a hint.
 fn not_text_reason(alloc: Global, other: NotText) -> Result<String, AllocError>
     ensures { IfOk result (λ text. string_bytes text ≡ not_text_reason other) }
 {
@@ -399,7 +400,7 @@ fn not_text_reason(alloc: Global, other: NotText) -> Result<String, AllocError>
     }
 }
 
-// Why a text has no records.
+// The reason for a text without records.
 fn records_reason(alloc: Global, error: RecordsError) -> Result<String, AllocError>
     ensures { IfOk result (λ text. string_bytes text ≡ records_reason error) }
 {
@@ -412,7 +413,7 @@ fn records_reason(alloc: Global, error: RecordsError) -> Result<String, AllocErr
     }
 }
 
-// Why columns can't be drawn so.
+// The reason for an error in the choice of columns.
 fn columns_reason(alloc: Global, error: &ColumnsError) -> Result<String, AllocError>
     ensures { IfOk result (λ text. string_bytes text ≡ columns_reason error.now) }
 {
@@ -431,7 +432,7 @@ fn columns_reason(alloc: Global, error: &ColumnsError) -> Result<String, AllocEr
     }
 }
 
-// Why the input can't be opened or read.
+// The reason for an input that can't be opened or read.
 fn reading_reason(fault: Option<io::ErrorKind>) -> &'static str
     ensures { result.now ≡ reading_reason fault }
 {
@@ -443,7 +444,7 @@ fn reading_reason(fault: Option<io::ErrorKind>) -> &'static str
     }
 }
 
-// The hint if no encoding was asked for.
+// The hint for an input that isn't UTF-8, if no encoding is set.
 fn encoding_hint(encoding: Option<Encoding>, may_be_cp1252: bool) -> &'static str
     ensures { result.now ≡ encoding_hint encoding may_be_cp1252 }
 {
@@ -454,7 +455,7 @@ fn encoding_hint(encoding: Option<Encoding>, may_be_cp1252: bool) -> &'static st
     }
 }
 
-/// The message of clap, with nothing in it that speaks to the terminal: its text holds arguments as
+/// The message of clap, without control characters other than line feeds: it quotes arguments as
 /// they were typed.
 pub(crate) fn text_of_clap(alloc: Global, error: &Error) -> Result<String, AllocError>
     ensures { IfOk result (λ text. IsHarmless (string_bytes text)) }

@@ -1,4 +1,4 @@
-//! Why no drawing was written.
+//! Errors of drawings.
 
 ghost use Rattle.std.specs.Prelude.{◌≡◌};
 ghost use Rattle.csv_command.specs.Errors.{of_columns, of_decoding, of_records, of_stop};
@@ -11,18 +11,18 @@ use devices::Stop;
 use std::alloc::AllocError;
 use thiserror::Error;
 
-/// Why columns can't be drawn so.
+/// An error in the choice of columns.
 #[derive(Debug, Drop, Error)]
 pub enum ColumnsError {
-    /// A list of columns has this word, which chooses no column that is there; and a hint: a name
-    /// that differs from it in case alone, else the columns that there are.
+    /// This word chooses no existing column. The second text is a hint: a name that differs from
+    /// the word only in case, or else a list of the columns.
     #[error("no column '{0}'; {1}")]
     NoColumn(String, String),
-    /// No column is chosen that isn't left out, or no record has a field.
+    /// All chosen columns are dropped, or no record has a field.
     #[error("no column is left")]
     NoneLeft,
-    /// The column of this name, or of this number if there is no header, is to be at the
-    /// right and at the left.
+    /// The column with this name, or with this number if there is no header, is both right-aligned
+    /// and left-aligned.
     #[error("column '{0}' can't stand at the right and at the left")]
     TwoSides(String),
     /// There was no memory for the table or its drawing.
@@ -30,7 +30,8 @@ pub enum ColumnsError {
     OutOfMemory,
 }
 
-/// Why no drawing was written, or not all of it. Want of memory is `OutOfMemory`, wherever it was.
+/// An error because of which a drawing wasn't written, or not all of it. Each lack of memory is
+/// `OutOfMemory`.
 #[derive(Debug, Drop, Error)]
 pub enum CsvError {
     /// The source failed during the call.
@@ -45,7 +46,7 @@ pub enum CsvError {
     /// The text has no records.
     #[error("{0}")]
     Records(RecordsError),
-    /// The columns can't be drawn so.
+    /// The columns can't be chosen in this way.
     #[error("{0}")]
     Columns(ColumnsError),
     /// There was no memory for the records, their table or its drawing.

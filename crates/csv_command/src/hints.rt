@@ -1,4 +1,4 @@
-//! Hints of messages on words that choose no column.
+//! Hints in messages about words that choose no column.
 
 ghost use Rattle.std.specs.Prelude.{◌≡◌, ◌<◌, IfOk, string_bytes};
 ghost use Rattle.csv_command.specs.Hints.{column_count, hint_for, is_alike, listed_names, listed_part, name_or_number, position_alike, separator_before, there_are};
@@ -6,11 +6,12 @@ ghost use Rattle.csv_command.specs.Hints.{column_count, hint_for, is_alike, list
 use csv_records::Record;
 use std::alloc::{AllocError, Global};
 
-// How many names a message lists at most, before it says how many more there are.
+// The greatest number of names that a message lists. It counts the others.
 const MOST_LISTED: usize = 8;
 
-/// The hint for a word that chooses no column: the first name that differs from it in the case of
-/// ASCII letters and in white space at the ends alone, else the columns that there are.
+/// The hint for a word that chooses no column: the first similar name, or else a list of the
+/// columns. A similar name differs from the word only in the case of ASCII letters and in white
+/// space at its ends.
 pub(crate) fn hint_of(
     alloc: Global,
     names: &Record<'_>,
@@ -28,21 +29,21 @@ pub(crate) fn hint_of(
     }
 }
 
-// The position of the first name that is like this word.
+// The position of the first name that is similar to this word.
 fn position_alike(names: &Record<'_>, word: &str) -> Option<usize>
     ensures { result ≡ position_alike word.now names.now }
 {
     names.iter().position(|name| is_alike(word, name))
 }
 
-// Whether two names are one in some case of letters, without white space at the ends.
+// True if two names are equal in letters of either case, without white space at the ends.
 fn is_alike(word: &str, name: &str) -> bool
     ensures { result ≡ is_alike word.now name.now }
 {
     name.trim_ascii().eq_ignore_ascii_case(word.trim_ascii())
 }
 
-// The columns that there are: their names, or their number if there is no header.
+// The columns that exist: their names, or their number if there is no header.
 fn there_are(alloc: Global, names: &Record<'_>, count: usize) -> Result<String, AllocError>
     ensures { IfOk result (λ text. string_bytes text ≡ there_are names.now count) }
 {
@@ -68,7 +69,7 @@ fn column_count(alloc: Global, count: usize) -> Result<String, AllocError>
     }
 }
 
-// The names of the first columns, and how many more there are.
+// The names of the first columns, and the number of the others.
 fn listed_names(alloc: Global, names: &Record<'_>, count: usize) -> Result<String, AllocError>
     ensures { IfOk result (λ text. string_bytes text ≡ listed_names names.now count) }
 {
@@ -82,7 +83,7 @@ fn listed_names(alloc: Global, names: &Record<'_>, count: usize) -> Result<Strin
     Ok(text)
 }
 
-// The text before a part of a list of this many parts.
+// The text before a part of a list with this many parts.
 fn separator_before(parts: usize, place: usize) -> &'static str
     requires { place < parts }
     ensures { result.now ≡ separator_before parts place }
@@ -96,7 +97,7 @@ fn separator_before(parts: usize, place: usize) -> &'static str
     }
 }
 
-// A part of that list.
+// A part of the list: a name, or the number of the names that aren't listed.
 fn listed_part(
     alloc: Global,
     names: &Record<'_>,

@@ -1,5 +1,5 @@
-//! Messages on words in place of a number, an encoding or a delimiter, and on options that mean
-//! something else than was intended.
+//! Messages about words that are no number, no encoding or no delimiter, and about options that
+//! have another meaning here.
 
 ghost use Rattle.std.specs.Prelude.{◌≡◌, IfOk, Some, map, option_map, string_bytes};
 ghost use Rattle.csv_command.specs.Mistakes.{behind_letter, encoding_reason, given, in_one_word, is_number_to, number_reason, reason_of, with_value, wrong_delimiter, wrong_value};
@@ -7,7 +7,7 @@ ghost use Rattle.csv_command.specs.Mistakes.{behind_letter, encoding_reason, giv
 use crate::options::{greatest_number, is_encoding};
 use std::alloc::{AllocError, Global};
 
-/// The message on a word in place of a delimiter.
+/// The message about a word that can't be a delimiter.
 pub(crate) fn reason_of_delimiter(alloc: Global, word: &str) -> Result<String, AllocError>
     ensures { IfOk result (λ reason. string_bytes reason ≡ wrong_delimiter word.now) }
 {
@@ -17,7 +17,8 @@ pub(crate) fn reason_of_delimiter(alloc: Global, word: &str) -> Result<String, A
     )
 }
 
-/// The message on the first word in place of a number or an encoding.
+/// The message about the first word that isn't the number or the encoding that its option takes, or
+/// `None` if there is no such word.
 pub(crate) fn reason_of_value(
     alloc: Global,
     arguments: &[&str],
@@ -39,7 +40,8 @@ pub(crate) fn reason_of_value(
     Ok(None)
 }
 
-// An option and its value, which is in the same word or else is the next one, if any.
+// An option and its value, which is in the same word, or is the next word. Without a next word, the
+// value is empty.
 fn given<'a>(option: &'a str, rest: &[&'a str]) -> (&'a str, &'a str)
     ensures { (result.0.now, result.1.now) ≡ given option.now (map (λ w. w.now) rest.now) }
 {
@@ -85,8 +87,9 @@ fn with_value<'a>(option: &'a str, value: &'a str) -> Option<(&'a str, &'a str)>
     (!value.is_empty()).then_some((option, value))
 }
 
-// The message on an option and a word after it: on a word in place of a number or an encoding, on a
-// number after an option that seems to take one, and on things that `csvtable` does otherwise.
+// The message about an option and the word after it, if the word isn't the number or the encoding
+// that the option takes. Options of other programs that limit records, wrap or sort have messages
+// too.
 fn reason_of(alloc: Global, option: &str, word: &str) -> Result<Option<String>, AllocError>
     ensures { IfOk result (λ reason. option_map string_bytes reason
         ≡ reason_of option.now word.now) }
@@ -108,7 +111,7 @@ fn reason_of(alloc: Global, option: &str, word: &str) -> Result<Option<String>, 
     }
 }
 
-// The message on a word in place of an encoding.
+// The message about a word that is no encoding.
 #[tactic(auto, unfolding(crate::specs::Mistakes::encoding_reason))]
 fn reason_of_encoding(alloc: Global, word: &str) -> Result<Option<String>, AllocError>
     ensures { IfOk result (λ reason. option_map string_bytes reason ≡ encoding_reason word.now) }
@@ -121,13 +124,13 @@ fn reason_of_encoding(alloc: Global, word: &str) -> Result<Option<String>, Alloc
     )?))
 }
 
-// The message on an option that wraps nothing.
+// The message about an option of other programs against wrapping.
 const NO_WRAP: &str = "-w 0 wraps nothing; -m 1 draws one line for each record";
 
-// The message on an option that sorts.
+// The message about an option of other programs for sorting.
 const SORT: &str = "csvtable doesn't sort; try mlr --csv sort -nr COLUMN FILE | csvtable";
 
-// Whether a word is a number up to this one.
+// True if a word is a number up to `greatest`.
 fn is_number_to(greatest: usize, word: &str) -> bool
     ensures { result ≡ is_number_to greatest word.now }
 {

@@ -13,16 +13,16 @@ use crate::styles::is_named;
 use clap::{Arg, ArgAction, Command, value_parser};
 use std::alloc::{AllocError, Global};
 
-// An option that the program knows, or its file.
+// An option of the program, or its file.
 #[derive(Clone, Copy)]
 struct OptionSpec {
     name: &'static str,
     letter: Option<char>,
     kind: Kind,
-    // what help calls its value
+    // the name of its value in the help text
     value: &'static str,
     help: &'static str,
-    // the word below which help has it
+    // the heading above it in the help text
     heading: &'static str,
 }
 
@@ -42,7 +42,8 @@ enum Kind {
     Encoding,
 }
 
-// The options of some rows, each a heading, a name, a letter, a kind, a value and a help.
+// The options of a table. Each row has a heading, a name, a letter, a kind, a value and a help
+// text.
 macro_rules! option_table {
     ($($heading:literal, $name:literal, $letter:expr, $kind:ident, $value:literal,
         $help:literal;)*) => {
@@ -126,7 +127,7 @@ static ENCODINGS: [&str; 10] = [
     "utf-16le",
 ];
 
-/// Whether a word is the name of an encoding, in any case of letters.
+/// True if a word is the name of an encoding, in letters of either case.
 pub(crate) fn is_encoding(word: &str) -> bool
     ensures { result ≡ is_encoding word.now }
 {
@@ -187,7 +188,7 @@ fn with_letter<'a>(arg: Arg<'a>, letter: Option<char>) -> Arg<'a>
     }
 }
 
-// An option with a value of its kind.
+// An argument whose value has this kind.
 fn with_value<'a>(arg: Arg<'a>, kind: Kind, styles: &'a [&'a str]) -> Arg<'a>
     requires { map (λ name. name.now) styles.now ≡ style_names }
     ensures { bare (rule_of result) ≡ with_values kind (bare (rule_of arg.entry)) }
@@ -202,7 +203,7 @@ fn with_value<'a>(arg: Arg<'a>, kind: Kind, styles: &'a [&'a str]) -> Arg<'a>
     }
 }
 
-// An option whose value is one of these names, which its help text says in fewer words than clap
+// An argument whose value is one of these names. Its help text lists them in fewer words than clap
 // would.
 fn with_names<'a>(arg: Arg<'a>, names: &'a [&'a str]) -> Arg<'a>
     ensures { bare (rule_of result)
@@ -214,7 +215,8 @@ fn with_names<'a>(arg: Arg<'a>, names: &'a [&'a str]) -> Arg<'a>
     arg.value_parser(names).hide_possible_values(true)
 }
 
-/// The greatest number that an option takes, by its name or its letter; none if it takes no number.
+/// The greatest number that an option takes, given its name or its letter. `None` if it takes no
+/// number, or isn't known.
 pub(crate) fn greatest_number(word: &str) -> Option<usize>
     ensures { result ≡ greatest_number word.now }
 {
@@ -244,7 +246,7 @@ fn greatest_read(option: &OptionSpec) -> Option<usize>
     }
 }
 
-// Whether a word calls an option by its name or its letter.
+// True if a word calls an option by its name or its letter.
 fn is_called(option: &OptionSpec, word: &str) -> bool
     ensures { result ≡ is_called word.now (rule_for option.now).0 }
 {
@@ -254,7 +256,8 @@ fn is_called(option: &OptionSpec, word: &str) -> bool
     }
 }
 
-// Whether a word without its first hyphen is an option's name with another hyphen, or its letter.
+// True if the rest of a word after its first hyphen is a hyphen with an option's name, or its
+// letter.
 fn is_name_of(option: &OptionSpec, rest: &[u8]) -> bool
     ensures { result ≡ is_name_of rest.now (rule_for option.now).0 }
 {

@@ -1,5 +1,5 @@
-//! Calls that only ask the system: the arguments, the streams, the environment and the file. The
-//! answers are used in `ending` and in `parse`.
+//! Calls of the system: the arguments, the streams, the environment and the file. `parse` and
+//! `ending` use their answers.
 
 use crate::arguments::{Invocation, OutputContext, parse};
 use crate::ending::{
@@ -16,10 +16,10 @@ use std::io::{IsTerminal, Read, Write};
 use std::process::ExitCode;
 use std::{env, io};
 
-/// Runs the program over the standard streams, with the arguments after the process's name, and
-/// returns its status: 0 where the drawing was written, 1 with a line on standard error after an
-/// error, 2 with a reason where the arguments aren't known. Where a pipe has no reader any more,
-/// the status is 1, and nothing is said.
+/// Runs the program over the standard streams, with the arguments of the process, and returns its
+/// status. It is 0 if the drawing, help or the version was written. It is 1 after an error, with a
+/// line on standard error. It is 2 if the arguments aren't known, with a reason on standard error.
+/// If a pipe has no reader any more, the status is 1, without a line.
 ///
 /// ```
 /// fn main(rt: HostRuntime) -> ExitCode {
@@ -34,7 +34,7 @@ pub fn run_with_arguments(rt: &HostRuntime) -> ExitCode {
     end(rt, &ending)
 }
 
-// A writer that notes if something is to be written.
+// A writer that notes if any byte is written.
 #[derive(Drop)]
 struct Noting<W> {
     writer: W,
@@ -54,15 +54,15 @@ impl<W: Write> Write for Noting<W> {
     }
 }
 
-// A sink that goes on where a signal interrupts a write.
+// A sink that goes on if a signal interrupts a write.
 type WriterTo<W> = ToWriter<Uninterrupted<W>>;
 
 fn writer_of<W: Write>(writer: W) -> WriterTo<W> {
     ToWriter::new(Uninterrupted::new(writer))
 }
 
-// Says what there is to say, and ends. Where a message can't be said there is nowhere left to say
-// so; help is an output.
+// Writes the message and returns the status. Help goes to standard output; if it can't be written,
+// the status is 1. A failure to write to standard error changes nothing.
 fn end(rt: &HostRuntime, ending: &Ending) -> ExitCode {
     let text = ending.said.text().as_bytes();
     if ending.is_message {
@@ -82,7 +82,7 @@ fn run_with(rt: &HostRuntime, arguments: &[String]) -> Ending {
     }
 }
 
-// What the arguments ask for, here.
+// The options of the process, by its arguments and its environment.
 fn invocation(rt: &HostRuntime, arguments: &[String]) -> Result<Invocation, clap::Error> {
     let texts: Vec<&str> = arguments
         .iter()
@@ -98,7 +98,7 @@ fn invocation(rt: &HostRuntime, arguments: &[String]) -> Result<Invocation, clap
     parse(rt.alloc(), texts.as_slice(), context)
 }
 
-// A variable of the environment, where it is set and is text.
+// A variable of the environment, if it is set and is UTF-8.
 fn variable(rt: &HostRuntime, name: &str) -> Result<Option<String>, AllocError> {
     match env::var(rt, name) {
         Ok(value) => Ok(Some(value)),
@@ -132,7 +132,7 @@ fn run(rt: &HostRuntime, invocation: &Invocation) -> Ending {
     )
 }
 
-// The outcome, and with which error the input couldn't be opened or read.
+// The result, and the error on opening or reading the input, if there was one.
 type DrawingResult = (Result<Option<LongRecords>, CsvError>, Option<io::ErrorKind>);
 
 fn drawn<W: Write>(

@@ -1,4 +1,4 @@
-//! The styles that arguments name: those of the program's own names, and the presets.
+//! The styles that arguments name: the program's own styles, and the presets.
 
 ghost use Rattle.std.specs.Prelude.{◌≡◌, IfOk, map, option_map};
 ghost use Rattle.csv_command.specs.Styles.{compact_style, is_compact, is_named, named_style, own_styles, style_for, style_names, style_within};
@@ -7,7 +7,7 @@ use comfy_parts::style::TableStyle;
 use comfy_parts::style::presets::{self, ASCII_FULL, ASCII_MARKDOWN, NOTHING, UTF8_FULL};
 use std::alloc::{AllocError, Global};
 
-/// The names that a style may have, the program's own ones first.
+/// The names of styles, the program's own names first.
 pub(crate) fn style_names(alloc: Global) -> Result<Vec<&'static str>, AllocError>
     ensures { IfOk result (λ names. map (λ name. name.now) names.items ≡ style_names) }
 {
@@ -16,21 +16,21 @@ pub(crate) fn style_names(alloc: Global) -> Result<Vec<&'static str>, AllocError
     Ok(names)
 }
 
-/// The style of this name in any case of letters, `rounded` without one.
+/// The style with this name in letters of either case, or `rounded` without a name.
 pub(crate) fn style_of(name: Option<&str>) -> TableStyle
     ensures { result ≡ style_for (option_map (λ n. n.now) name.entry) }
 {
     name.map_or(rounded(), named_style)
 }
 
-/// Whether this is a name of `rounded` or `box`; no name means `rounded`.
+/// True for the names `rounded` and `box`, and without a name, which means `rounded`.
 pub(crate) fn is_compact(name: Option<&str>) -> bool
     ensures { result ≡ is_compact (option_map (λ n. n.now) name.entry) }
 {
     name.is_none_or(|name| is_named("rounded", name) || is_named("box", name))
 }
 
-/// Whether two names are the same in any case of letters.
+/// True if two names are equal in letters of either case.
 pub(crate) fn is_named(name: &str, word: &str) -> bool
     ensures { result ≡ is_named name.now word.now }
 {
@@ -57,7 +57,7 @@ fn own_styles() -> [(&'static str, TableStyle); 6]
     ]
 }
 
-// The names of some styles.
+// The names of styles.
 fn names_of(
     alloc: Global,
     styles: &[(&'static str, TableStyle)],
@@ -81,7 +81,7 @@ fn named_style(name: &str) -> TableStyle
     }
 }
 
-// The style of the first of these names that is this one.
+// The style of the first name that is equal to this one.
 fn style_within(styles: &[(&'static str, TableStyle)], name: &str) -> Option<TableStyle>
     ensures { result ≡ style_within (map (λ entry. (entry.0.now, entry.1)) styles.now) name.now }
 {

@@ -1,4 +1,4 @@
-//! What the program says at its end, if no clause can: that there is memory for it.
+//! Messages of the program at its end. Clauses can't state that there is memory for them.
 
 use crate::arguments::{Invocation, OutputContext, parse};
 use crate::ending::{
@@ -10,26 +10,27 @@ use std::alloc::{Alloc, Global};
 use std::io::ErrorKind;
 use std::process::Abort;
 
-// Where the output goes: to no terminal.
+// The destination of the output: no terminal.
 const NOWHERE: OutputContext<'static> = OutputContext {
     is_terminal: false,
     columns: None,
     no_color: None,
 };
 
-// An ending has this status, and says this text, as a message or as an output.
+// Fails unless an ending has this status and this text, as a message or as an output.
 fn assert_says(rt: &impl Abort, ending: &Ending, status: u8, is_message: bool, text: &str) {
     assert_eq!(rt; ending.said.text(), text);
     assert!(rt; ending.status == status, "the status with {text}");
     assert!(rt; ending.is_message == is_message, "where {text} goes");
 }
 
-// What these arguments ask for.
+// The options that these arguments give.
 fn parse_by<'a>(rt: &(impl Abort + Alloc<A = Global>), arguments: &'a [&'a str]) -> Invocation {
     parse(rt.alloc(), arguments, NOWHERE).expect(rt, "arguments")
 }
 
-// What is said where a drawing ends with this error, the input being at fault so.
+// Fails unless a drawing that ends with this error has this message; `fault` is the error of the
+// input.
 fn assert_message(
     rt: &(impl Abort + Alloc<A = Global>),
     invocation: &Invocation,
@@ -51,7 +52,7 @@ fn name(rt: &(impl Abort + Alloc<A = Global>), name: &str) -> String {
     String::from_str(rt.alloc(), name).expect(rt, "memory")
 }
 
-// A file is named, and the reason said why it can't be read.
+// The file is named, and the reason says why it can't be read.
 #[test]
 fn a_file_that_can_not_be_read(rt: HostRuntime) {
     let arguments = ["csvtable", "a.csv"];
@@ -77,7 +78,7 @@ fn a_file_that_can_not_be_read(rt: HostRuntime) {
     }
 }
 
-// If no file is named, a terminal is waited for.
+// If no file is named, the program waits for a terminal.
 #[test]
 fn a_terminal_is_waited_for(rt: HostRuntime) {
     let waiting = "csvtable: reading from the terminal; end with Ctrl-D\n";
@@ -93,8 +94,8 @@ fn a_terminal_is_waited_for(rt: HostRuntime) {
     }
 }
 
-// So is what is wrong with its bytes; the two lines with a name are those of the page on the
-// program.
+// The file is named too if its bytes are wrong. The two lines with a name are those of the page
+// about the program.
 #[test]
 fn an_input_that_can_not_be_drawn(rt: HostRuntime) {
     let arguments = ["csvtable", "bank.csv"];
@@ -145,7 +146,7 @@ fn not_utf8(line: u64, may_be_cp1252: bool) -> CsvError {
     })
 }
 
-// What an input is that is no text in UTF-8, and what helps.
+// The kind of an input that isn't UTF-8 text, and a hint.
 #[test]
 fn an_input_that_is_something_else(rt: HostRuntime) {
     let arguments = ["csvtable", "a"];
@@ -201,7 +202,7 @@ fn an_input_that_is_something_else(rt: HostRuntime) {
     }
 }
 
-// A name that was typed or read speaks to no terminal.
+// No control character of a typed or read name reaches the terminal.
 #[test]
 fn columns_that_can_not_be_drawn(rt: HostRuntime) {
     let arguments = ["csvtable"];
@@ -218,7 +219,7 @@ fn columns_that_can_not_be_drawn(rt: HostRuntime) {
     assert_message(&rt, &invocation, error, None, text);
 }
 
-// With this error of the output it says so.
+// Fails unless this error of the output has this message.
 fn assert_unwritten(
     rt: &(impl Abort + Alloc<A = Global>),
     invocation: &Invocation,
@@ -248,8 +249,7 @@ fn a_drawing_that_ends(rt: HostRuntime) {
     assert_unwritten(&rt, &invocation, ErrorKind::BrokenPipe, "");
 }
 
-// The message after these arguments' drawing was written, if it has these long records, or shows
-// nothing in a terminal.
+// The message after a drawing was written that has these long records, or is blank in a terminal.
 fn assert_drawn<'a>(
     rt: &(impl Abort + Alloc<A = Global>),
     arguments: &'a [&'a str],
@@ -268,7 +268,7 @@ fn assert_drawn<'a>(
     assert_says(rt, &ending_of_outcome(rt.alloc(), &drawing), 0, true, text);
 }
 
-// Nothing is said of a drawing that was written, but of records with more fields than the header.
+// A drawing that was written has no message, unless records have more fields than the header.
 #[test]
 fn a_drawing_that_was_written(rt: HostRuntime) {
     let one = LongRecords {
@@ -290,8 +290,8 @@ fn a_drawing_that_was_written(rt: HostRuntime) {
     assert_drawn(&rt, &["csvtable", "\u{1b}[2J"], Some(three), false, text);
 }
 
-// Lines above a table are left out by --skip: if the first of them has a field, or at least two
-// fewer than each record of the table.
+// `--skip` is recommended for lines above a table, if the first of them has one field, or at least
+// two fewer than each record of the table.
 #[test]
 fn a_table_below_other_lines(rt: HostRuntime) {
     let below = LongRecords {
@@ -320,7 +320,7 @@ fn a_table_below_other_lines(rt: HostRuntime) {
     assert_drawn(&rt, &["csvtable", "a.csv"], Some(among), false, text);
 }
 
-// A terminal shows why it shows nothing.
+// A terminal gets a reason for an empty output.
 #[test]
 fn an_input_without_records(rt: HostRuntime) {
     let text = "csvtable: a.csv: no records\n";
@@ -329,7 +329,7 @@ fn an_input_without_records(rt: HostRuntime) {
     assert_drawn(&rt, &["csvtable", "--skip", "99"], None, true, text);
 }
 
-// How the program ends where clap has something to say of these arguments.
+// The end of the program if clap has a text for these arguments.
 fn ending_by<'a>(rt: &(impl Abort + Alloc<A = Global>), arguments: &'a [&'a str]) -> Ending {
     match parse(rt.alloc(), arguments, NOWHERE) {
         Ok(_asked) => ending_without_arguments(ErrorKind::Other),
@@ -337,8 +337,7 @@ fn ending_by<'a>(rt: &(impl Abort + Alloc<A = Global>), arguments: &'a [&'a str]
     }
 }
 
-// By clap's layout: what the program does, how it is called, its arguments, and what is after
-// them.
+// Help has clap's layout: a description, the usage, the arguments, and a text after them.
 #[test]
 fn help_is_an_output(rt: HostRuntime) {
     for argument in ["-h", "--help"] {
@@ -367,7 +366,7 @@ fn help_is_an_output(rt: HostRuntime) {
     }
 }
 
-// An argument that isn't known, and one without its value.
+// An unknown argument, and an argument without its value.
 #[test]
 fn mistakes_are_messages(rt: HostRuntime) {
     let text = "error: csvtable draws one file; try mlr --csv cat FILE FILE | csvtable
@@ -394,7 +393,7 @@ For more information, try '--help'.
     assert_says(&rt, &ending_by(&rt, &arguments), 2, true, text);
 }
 
-// These arguments are refused for this reason.
+// Fails unless these arguments are refused for this reason.
 fn assert_refused<'a>(
     rt: &(impl Abort + Alloc<A = Global>),
     arguments: &'a [&'a str],
@@ -407,8 +406,8 @@ fn assert_refused<'a>(
     assert_eq!(rt; line.strip_prefix("error: ").unwrap_or(""), reason);
 }
 
-// The numbers and the encodings that an option takes are named, and what to type where another one
-// is meant. A word after `--` is none of an option's.
+// Messages list the numbers and the encodings that an option takes, and recommend another option if
+// that may be meant. A word after `--` isn't the value of an option.
 #[test]
 fn words_that_are_no_numbers(rt: HostRuntime) {
     let cases = [
@@ -497,7 +496,7 @@ fn words_that_are_no_numbers(rt: HostRuntime) {
     assert_refused(&rt, &arguments, reason);
 }
 
-// A message names a word that is no delimiter.
+// The message quotes a word that can't be a delimiter.
 #[test]
 fn words_that_are_no_delimiters(rt: HostRuntime) {
     let cases = [

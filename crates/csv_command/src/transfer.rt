@@ -20,21 +20,24 @@ use devices::{Render, Rendered, Sink, Source};
 use std::alloc::Global;
 
 /// Reads the source, and writes the drawing of the table of its records to the sink, each line
-/// followed by a line feed. If not all records are drawn, a line says how many there are.
+/// followed by a line feed. If not all records are drawn, a line gives their number.
 ///
-/// The source is read whole. If there is a limit and records aren't counted, 65536 bytes are
-/// read, then twice as many, and so on, until their whole lines have more records than are drawn,
-/// and show the delimiter; that line says then that there are more. What is after
-/// these lines isn't judged, and however the source parts its bytes, the drawing is the same.
+/// The source is read whole, unless there is a limit and records aren't counted. Then 65536 bytes
+/// are read, then twice as many, and so on. Reading stops when their complete lines have more
+/// records than are drawn, and show the delimiter. The last line of the drawing then says only that
+/// there are more records. The rest of the source isn't checked. The drawing doesn't depend on the
+/// sizes in which the source delivers its bytes.
 ///
 /// An input without records has an empty output.
 ///
-/// Returns which of the drawn records have more fields than the header, if some have.
+/// Returns the records with more fields than the header, if some drawn records have more.
 ///
-/// The drawing is written in pieces. Where the input can't be read, is no text, isn't in its
-/// encoding or has a quote that is never closed, or columns can't be chosen so, nothing is written.
-/// Where the output can't be written, a beginning of it was, and if memory runs out, nothing or
-/// a beginning, never all of it.
+/// # Errors
+///
+/// The drawing is written in pieces. Nothing is written if the input can't be read, is no text,
+/// isn't in its encoding or has a quote that is never closed, or if columns can't be chosen. If the
+/// output can't be written, a beginning of it was written. If memory runs out, nothing or a
+/// beginning was written, but never all of it.
 ///
 /// ```
 /// let mut source = FromReader::new(rt.stdin());
@@ -58,7 +61,7 @@ pub fn draw<R: Source, W: Sink>(
     Ok(devices::run(alloc, source, sink, options)?)
 }
 
-// A drawing, and the records with more fields than the header.
+// A drawing, and its records with more fields than the header.
 type Drawing = Rendered<RecordDrawing, Option<LongRecords>>;
 
 impl Render for Options {
@@ -97,7 +100,7 @@ impl Render for Options {
     }
 }
 
-// How many records of an input are drawn at most, with the header, if there is a limit.
+// The greatest number of records that are drawn, including the header, if there is a limit.
 fn most_drawn(selection: &Selection) -> Option<usize>
     ensures some { IfSome result (λ most.
         option_map (most_drawn selection.now.has_header) selection.now.limit ≡ Some most) }
@@ -112,14 +115,14 @@ fn most_drawn(selection: &Selection) -> Option<usize>
     }
 }
 
-// Those of the first records that have more fields than the header.
+// The report of those first records that have more fields than the header.
 fn long_records_of(selection: &Selection, first: &FirstRecords) -> Option<LongRecords>
     ensures { result ≡ (if selection.now.has_header then first.now.longer else None) }
 {
     first.longer.filter(|_| selection.has_header)
 }
 
-// The output for these records, of which this many are below the header, where that is known.
+// The output for these records. `count` is the number of records below the header, if it is known.
 fn output_of(
     alloc: Global,
     records: Records,

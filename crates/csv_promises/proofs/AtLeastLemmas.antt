@@ -1,4 +1,4 @@
--- A text without U+FE0E measures at least what each of its characters measures by itself, if that is more than one column.
+-- A text without U+FE0E is at least as wide as each of its characters alone that is wider than one terminal column.
 use Rattle.std.proofs.Common.{◌≡◌, ◌≤◌, ℕ, ◌+◌, Bool, true, false, not, ◌&&◌, ◌||◌, ◌==◌, nat_le, List, [], ◌∷◌, length, max, slice_index_or, zero, suc, ◌<◌, inl, inr, refl, sym, ap, ◌∙◌, subst, arith}
 use Rattle.std.specs.Prelude.{if◌then◌else◌, chars, encode_utf8, IsUtf8}
 use Rattle.std.specs.Str.{all_scalars}
@@ -21,7 +21,7 @@ use Rattle.cluster_width.proofs.Sums.{implied, one_more, read, read-step}
 
 -- ---- what one step back keeps
 
--- the columns that the next step may take away
+-- the number of terminal columns that the next step may take away
 abbrev credit : After → ℕ
 credit KhmerLetter = 1
 credit JoinerTifinagh = 1
@@ -29,7 +29,7 @@ credit IndicatorZwj = 1
 credit OddIndicatorsZwj = 1
 credit _ = 0
 
--- the columns at least that a text has that leads to this
+-- the least number of terminal columns of a text that leads to this state
 abbrev least : After → ℕ
 least EmojiModifier = 2
 least RegionalIndicators = 2
@@ -55,15 +55,16 @@ least Solidus = 0
 least SolidusAlef = 0
 least _ = 1
 
--- what a total that counts from 1 has at least after a character of n - 1 columns: one column may be gone again, by U+17D2
+-- the least total, counted from 1, after a character of n - 1 columns; U+17D2 may take one column away again
 abbrev asked : ℕ → ℕ
 asked n = if n == 2 then 1 else n
 
--- the characters that may come
+-- the characters that may follow
 abbrev may_come : ℕ → Bool
 may_come c = not (c == 0xFE0E)
 
--- r, the reading of one step from a total of 1, where a follows, keeps all that; n is the total of the character by itself
+-- the reading r of one step from a total of 1 has a as its next state, and keeps these bounds; n is the total of the
+-- character alone
 abbrev is_well_read : After → ℕ → Reading → Bool
 is_well_read a n r =
     not r.1.text
@@ -71,7 +72,7 @@ is_well_read a n r =
     && (nat_le (1 + least r.1.after) (r.0 + least a)
     && nat_le (asked n + credit r.1.after) (r.0 + least a)))
 
--- it does if d, whose step it is, may come
+-- the same if d, the character of this step, may follow
 abbrev is_well_read_by : ℕ → After → ℕ → Reading → Bool
 is_well_read_by d a n r = not (may_come d) || is_well_read a n r
 
@@ -79,21 +80,21 @@ is_well_read_by d a n r = not (may_come d) || is_well_read a n r
 abbrev after_flags : After → Bool → Bool → State
 after_flags a emoji quote = record { after = a; emoji = emoji; text = false; quote = quote }
 
--- so it is with all flags
+-- the same for all flags
 abbrev in_all_flags : After → ℕ → ℕ → Bool
 in_all_flags a d n =
     (is_well_read_by d a n (step false d (1, after_flags a true true)) && is_well_read_by d a n (step false d (1, after_flags a true false)))
     && (is_well_read_by d a n (step false d (1, after_flags a false true)) && is_well_read_by d a n (step false d (1, after_flags a false false)))
 
--- the total of a character by itself, which counts from 1
+-- the total of a character alone, counted from 1
 abbrev own : ℕ → ℕ
 own d = (step false d (1, plain)).0
 
--- with the character's own total
+-- the same with the character's own total
 abbrev in_all_states : After → ℕ → Bool
 in_all_states a d = in_all_flags a d (own d)
 
--- all that may follow, in the order of `number_of`
+-- all states, in the order of `number_of`
 abbrev afters : List After
 afters =
     Nothing ∷ LineFeed ∷ EmojiModifier ∷ RegionalIndicator ∷ RegionalIndicators ∷ Emoji ∷ ZwjEmoji ∷ KeycapZwjEmoji ∷ IndicatorZwj
@@ -101,12 +102,12 @@ afters =
     ∷ TagLetter5 ∷ TagLetter6 ∷ KiratE ∷ KiratAi ∷ Alef ∷ Solidus ∷ SolidusAlef ∷ Lamed ∷ ZwjLamed ∷ Ya ∷ ZwjYa ∷ VowelZwjYa ∷ Tifinagh
     ∷ ZwjTifinagh ∷ JoinerTifinagh ∷ LisuTone ∷ OrkhonI ∷ ZwjOrkhonI ∷ KhmerLetter ∷ []
 
--- computed for a character of each class, with each that may follow
+-- computed for a character of each class, and each next state
 all-well : list_all (λ d. list_all (λ a. in_all_states a d) afters) examples ≡ true
 unfolding unicode_width examples
 all-well = refl
 
--- each is one of them
+-- each state is in the list
 place_back : (a : After) → slice_index_or afters (number_of a) Nothing ≡ a
 place_back Nothing = refl
 place_back _ = refl
@@ -138,7 +139,7 @@ well_read d a e q d_in may =
 
 -- ---- the reading of a text
 
--- what holds of each end of a text
+-- the invariant at each end of a text
 record IsRead (cs : List ℕ) : Type 0 where
   shown : (read cs).1.text ≡ false
   enough : least (read cs).1.after + 1 ≤ (read cs).0
@@ -197,7 +198,7 @@ asked-one n w h = by_test (n + 1 == 2) refl h
     by_test true is h = let two = eqb-true (n + 1) 2 is in omega (arith, two)
     by_test false is h = omega arith
 
--- without U+FE0E it measures at least what each of its characters measures that is wider than one column
+-- a text without U+FE0E is at least as wide as each of its characters alone that is wider than one terminal column
 wide_as_each_or_one : (cs : List ℕ) → list_all (λ c. not (c == 0xFE0E)) cs ≡ true → (c : ℕ) → IsIn cs c → str_width false (c ∷ []) ≤ max 1 (str_width false cs)
 wide_as_each_or_one cs all c known =
     let fits = (read-all cs all).each_fits c known in
@@ -218,7 +219,7 @@ each-text n (c ∷ cs) scalars each =
     let own_fits = each c (inl refl) in
     and_from _ _ (leb-from (measure (encode_utf8 c)) n (omega (arith, spells, own_fits))) (each-text n cs parts.1 (λ x later. each x (inr later)))
 
--- a text without U+FE0E measures at least what each of its characters measures that is wider than one column
+-- the same for the UTF-8 of the text
 pub text_wide_as_each_or_one : (text : Text) → IsUtf8 text → list_all (λ c. not (c == 0xFE0E)) (chars text) ≡ true
     → list_all (λ c. nat_le (measure (encode_utf8 c)) (max 1 (measure text))) (chars text) ≡ true
 text_wide_as_each_or_one text utf8 all =

@@ -1,4 +1,4 @@
--- Lines of a table whose cells are in bold, or aren't.
+-- Lines of a table whose cells may be in bold.
 use Rattle.std.proofs.Common.{◌≡◌, ◌⊎◌, inl, inr, ℕ, Bool, true, false, List, [], ◌∷◌, ◌++◌, None, append_assoc, append-nil, codes, sym, ap, ap₂, ◌∙◌, subst}
 use Rattle.std.specs.List.{All, AllZip}
 use Rattle.std.specs.Prelude.{if◌then◌else◌}
@@ -35,13 +35,13 @@ joins =
       of_both = λ shown others xs ys front back. bold_both others ys front back;
     }
 
--- a cell without colours and attributes, but for bold
+-- a cell without colours, and without attributes other than bold
 pub record IsWeighted (cell : CellValue) : Type 0 where
   pub no_foreground : cell.foreground ≡ None
   pub no_background : cell.background ≡ None
   pub attributes : (cell.attributes ≡ []) ⊎ (cell.attributes ≡ Bold ∷ [])
 
--- its styled text
+-- the styled text of the cell
 weighted_text : (cell : CellValue) → IsWeighted cell → (text : Text) → IsInBold text (styled cell text)
 weighted_text cell is text = by_attributes is.attributes
   where
@@ -55,7 +55,7 @@ weighted_text cell is text = by_attributes is.attributes
         subst (IsInBold text) (sym (made (Bold ∷ []) own))
         (subst (λ (t : Text). IsInBold t (codes "\u{1b}[1m" ++ (text ++ codes "\u{1b}[0m"))) (append-nil text) (subst (IsInBold (text ++ [])) (append-nil (codes "\u{1b}[1m" ++ (text ++ codes "\u{1b}[0m"))) is))
 
--- the lines of such cells, whose pieces are styled as wholes
+-- the lines of such cells, whose whole pieces are styled
 pub weighted_lines : (table : TableValue) → table.style_text_only ≡ false → (widths : List ℕ) → All (λ (row : RowValue). All IsWeighted row.cells) (header_and_rows table) → AllZip IsInBold (drawing (plainly table) widths) (drawing table widths)
 weighted_lines table wholes widths each = drawing_by_pieces IsInBold joins IsWeighted table (infos_of table widths) pieces each
   where

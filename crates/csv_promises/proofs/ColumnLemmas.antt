@@ -1,4 +1,4 @@
--- How many columns are drawn of records.
+-- The number of columns that are drawn of records.
 use Rattle.std.proofs.Common.{◌≡◌, ◌≤◌, ◌<◌, ◌==◌, ◌&&◌, ℕ, ◌+◌, ◌-◌, Bool, true, false, List, [], ◌∷◌, Option, Some, None, Ok, drop, get_or, length, map, nat_le, nat_lt, option_map, string_bytes, take, unwrap_or, refl, sym, ap, ap₂, ◌∙◌, subst, arith}
 use Rattle.std.specs.List.{All, list_any, range_with_len}
 use Rattle.std.specs.Option.{option_map_or, option_or}
@@ -21,7 +21,7 @@ use Rattle.csv_promises.specs.Width.{all_columns, columns_in}
 
 -- ---- positions
 
--- without names, words choose positions of so many columns
+-- without names, words choose positions before the last column
 module _ (count : ℕ) where
   abbrev Below : ℕ → Type 0
   Below k = k < count
@@ -51,7 +51,7 @@ module _ (count : ℕ) where
       by_length true own = let same : count ≡ end = cc own in omega (arith, same)
       by_length false own = by_column (column_of [] count word) refl own
 
-  -- a range ends at the last column at most
+  -- a range ends with the last column at the latest
   rising-below : (word : Text) (a : Option ℕ) (ends : ℕ × ℕ) → rising a (end_of [] count word) ≡ Some ends → ends.1 ≤ count
   rising-below word a ends is = by_end a (end_of [] count word) (end-below word) is
     where
@@ -110,7 +110,7 @@ module _ (count : ℕ) where
       by_test true = each-below words
       by_test false = each-below words
 
--- so do options
+-- so do the positions that options choose
 positions-below : (options : Options) (rows : List (List Text)) → All (Below (count_of [] rows)) (positions_in options [] rows)
 positions-below options rows =
     All-filter (λ (position : ℕ). not (list_any (λ (other : ℕ). other == position) (positions_by [] count options.columns.dropped.items))) (Below count) _ (by_words (length options.columns.chosen.items == 0))
@@ -134,7 +134,7 @@ module _ (options : Options) (records : List (List Text)) (own : ColumnsValue) (
   pub positions : own.drawn ≡ positions_in options names rows
   positions = kept_positions names (record { all = count_of names rows; filled = filled_count names rows }) options.columns.chosen.items options.columns.dropped.items own.drawn (chosen names _ _ _ own found)
 
-  -- they and their sides are those that options ask for
+  -- the columns and their alignments are those that options choose
   pub are_asked : own ≡ columns_asked options names rows
   are_asked =
       let sides = at_sides names _ _ _ own found in
@@ -155,7 +155,7 @@ module _ (options : Options) (records : List (List Text)) (own : ColumnsValue) (
   counted = ap (λ (ps : List ℕ). length ps + (if options.selection.is_numbered then 1 else 0)) positions
 
   module _ (known : Option ℕ) (content : SelectedValue) (is : selected_of known (layout_with options own) records ≡ content) where
-    -- the drawn columns are those that options choose
+    -- the positions of the drawn columns are those that options choose
     pub chosen_positions : map (λ (column : ColumnPlan). column.position) (columns_of (layout_with options own) records) ≡ positions_in options names rows
     chosen_positions = placed (layout_with options own) records known content is ∙ positions
 

@@ -1,4 +1,4 @@
--- How many columns a layout draws of records.
+-- The number of columns that a layout draws of records.
 use Rattle.std.proofs.Common.{◌≡◌, ◌≤◌, ◌<◌, ◌||◌, ◌==◌, ℕ, ◌+◌, Bool, true, false, List, [], ◌∷◌, Option, None, fold, length, map, max, nat_lt, unwrap_or, refl, sym, ap, ap₂, ◌∙◌, subst, arith}
 use Rattle.std.specs.List.{All, list_any}
 use Rattle.std.specs.Prelude.{if◌then◌else◌}
@@ -16,7 +16,7 @@ use Rattle.csv_promises.specs.Width.{columns_in}
 
 -- ---- fields at positions
 
--- a position that only a row explains is in one
+-- a position past the names is in one of the rows
 in_row : (p : ℕ) (rows : List (List Text)) (n : ℕ) → n ≤ p → p < fold (λ (m : ℕ) (fields : List Text). max m (length fields)) n rows → list_any (λ (fields : List Text). nat_lt p (length fields)) rows ≡ true
 in_row p [] n past below = absurd (omega (arith, past, below))
 in_row p (fields ∷ rows) n past below = by_test (nat_lt p (length fields)) refl (λ short. in_row p rows (max n (length fields)) (omega (arith, past, short)) below)
@@ -27,7 +27,7 @@ in_row p (fields ∷ rows) n past below = by_test (nat_lt p (length fields)) ref
 
 -- ---- contents
 
--- without names each position is that of a column of rows
+-- without names, each position is that of a column of the rows
 abbrev pub AreBelow : List Text → List (List Text) → List ℕ → Type 0
 AreBelow names rows positions = names ≡ [] → All (λ (k : ℕ). k < count_of [] rows) positions
 
@@ -53,18 +53,18 @@ module _ (layout : Layout) (records : List (List Text)) (known : Option ℕ) (co
   pub some_drawn : 1 ≤ length layout.columns.drawn → 1 ≤ length content.columns
   some_drawn some = omega (arith, some, long, ap (λ (cs : List ColumnPlan). length cs) own_columns)
 
-  -- the number of drawn columns, with that of record numbers
+  -- the number of drawn columns, including that of record numbers
   pub drawn_count : length content.columns + (if content.is_numbered then 1 else 0) ≡ columns_in layout
   drawn_count = ap₂ (λ (n : ℕ) (b : Bool). n + (if b then 1 else 0)) (ap (λ (cs : List ColumnPlan). length cs) own_columns ∙ long) (sym (ap (λ (c : SelectedValue). c.is_numbered) is))
 
   same_rows : content.rows ≡ rows
   same_rows = sym (ap (λ (c : SelectedValue). c.rows) is)
 
-  -- there are rows where records are drawn below the header
+  -- there are rows if records are drawn below the header
   pub no_rows-is : (length content.rows == 0) ≡ (length rows == 0)
   no_rows-is = ap (λ (rs : List (List Text)). length rs == 0) same_rows
 
-  -- without names a row has the field of the last column
+  -- without names, a row has the field of the last column
   pub reaches_last : 1 ≤ length layout.columns.drawn → AreBelow names rows layout.columns.drawn → content.names ≡ None → reaches content.columns content.rows ≡ true
   reaches_last some inside none =
       ap₂ (λ (cs : List ColumnPlan) (rs : List (List Text)). reaches cs rs) own_columns same_rows ∙ by_columns columns (omega (arith, some, long)) below

@@ -1,4 +1,4 @@
--- What a layout draws of texts is straight: if no character takes more than one terminal column, or if no width is kept to.
+-- The drawing of a layout is straight if no character takes more than one terminal column, or if there is no width.
 use Rattle.std.proofs.Common.{ap, ◌≡◌, ◌==◌, ◌&&◌, ◌||◌, inl, ℕ, Bool, true, false, not, List, [], ◌∷◌, Option, None, arith, chars, nat_le, refl, sym, ◌∙◌, subst}
 use Rattle.std.specs.Char.{is_control}
 use Rattle.std.specs.List.{All, list_any}
@@ -38,7 +38,7 @@ use Rattle.csv_promises.proofs.LineLemmas.{straight_text}
 use Rattle.csv_promises.specs.Counted.{EachLineFor}
 use Rattle.csv_promises.specs.Straight.{EachField, IsPlainField}
 
--- a character takes at most one column, and isn't U+FE01
+-- a character takes at most one terminal column, and isn't U+FE01
 abbrev is_narrow : ℕ → Bool
 is_narrow c = nat_le (measure (encode_utf8 c)) 1 && not (c == 0xFE01)
 
@@ -83,7 +83,8 @@ module _ (look : Look) (unkept : look.has_sequences ≡ false) (none : look.is_m
 
 -- ---- outputs
 
--- a layout that isn't for Markdown and keeps no sequences draws some texts, in a style of characters that are harmless and take one column
+-- a layout that isn't for Markdown and keeps no sequences draws UTF-8 texts, in a style of harmless characters of one
+-- terminal column
 pub record IsPlainOutput (known : Option ℕ) (layout : Layout) (rs : List (List Text)) (output : Text) : Type 0 where
   pub kind : layout.look.is_markdown ≡ false
   pub unkept : layout.look.has_sequences ≡ false
@@ -99,7 +100,7 @@ module _ (known : Option ℕ) (layout : Layout) (rs : List (List Text)) (output 
   pub own_fit : EachField (HasCharactersWithin 1) rs → EachText (CharactersFit 1) layout.look rs
   own_fit each = fields_fit layout.look is.unkept is.kind rs is.text each
 
-  -- these are drawn, and perhaps counted, as others are
+  -- the same records are drawn of others, and perhaps counted
   module _ (MayCount : Option ℕ → Type 0) (records : List (List Text)) (counted : MayCount known) (same : drawn_rows layout.selection rs ≡ drawn_rows layout.selection records) where
     abbrev Straight : Type 0
     Straight = (columns : ℕ) × EachLineFor (ShowsColumns columns) MayCount layout records output

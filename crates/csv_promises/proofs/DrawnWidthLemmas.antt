@@ -1,4 +1,4 @@
--- What a layout draws keeps to its width.
+-- The drawing of a layout keeps to its width.
 use Rattle.std.proofs.Common.{◌⊎◌, inl, inr, ◌≡◌, ◌≤◌, ◌<◌, ◌==◌, ◌||◌, ℕ, zero, suc, Bool, true, false, not, List, [], ◌∷◌, ◌++◌, Option, Some, flat_map, length, max, nat_lt, unwrap_or, refl, sym, ap, ◌∙◌, subst, arith}
 use Rattle.comfy_parts.proofs.CallerLemmas.{All-of_map}
 use Rattle.comfy_parts.specs.CellValue.{RowValue}
@@ -35,7 +35,7 @@ use Rattle.std.specs.Prelude.{Contains, if◌then◌else◌, sum_by, take}
 
 -- ---- expanded records without a field
 
--- where nothing is joined, both lists are empty
+-- if two joined lists are empty, each is
 both_empty : {A : Type 0} (xs ys : List A) → xs ++ ys ≡ [] → (xs ≡ []) × (ys ≡ [])
 both_empty [] ys none = (refl, none)
 both_empty (x ∷ xs) ys none = absurd (cc none)
@@ -99,7 +99,7 @@ module _ (w : ℕ) (known : Option ℕ) (layout : Layout) (records : List (List 
   expanded : text.is_expanded ≡ is_expanded_in look.expansion ((length content.rows == 0) || has_room_for look content (is_aligned_in look content))
   expanded = text.expansion
 
-  -- what the table needs fits the width, or a frame of its columns
+  -- the table needs at most the width, or a frame of its columns
   abbrev all : ℕ
   all = columns_in layout
 
@@ -137,7 +137,7 @@ module _ (w : ℕ) (known : Option ℕ) (layout : Layout) (records : List (List 
   abbrev Good : Type 0
   Good = EachLineFor IsGood MayCount layout whole output
 
-  -- all lines keep to it if a column is shown
+  -- all lines keep to the width if a column is shown
   kept : 0 < shown_count t → Good
   kept some = output_lines IsGood layout MayCount whole records known output lines table is_count same (with_lines known layout records output own text table plain_lines.unbroken) each
     where
@@ -160,7 +160,7 @@ module _ (w : ℕ) (known : Option ℕ) (layout : Layout) (records : List (List 
           let exact = line_is.1 in
           record { columns = measure (visible_text line); shows = shown_line (measure (visible_text line)) line (clear_lines k default under) refl; within = omega (arith, line_is.0, least_fits); exact = λ filled room. let is = exact filled in omega (arith, is, room, least_fits) }
 
-  -- else there are none
+  -- without a column there are no lines
   empty : text.is_expanded ≡ true → flat_map (pairs_in look content) content.rows ≡ [] → Good
   empty is none =
       output_lines IsGood layout MayCount whole records known output [] table is_count same

@@ -1,4 +1,4 @@
--- Expanded records: the rows of each are the next ones of their table.
+-- Expanded records: the rows of each one are the next rows of their table.
 use Rattle.std.proofs.Common.{◌≡◌, ℕ, List, [], ◌∷◌, ◌++◌, drop, flat_map, length, take, refl, sym, ap, ap₂, ◌∙◌, arith, length-append, slice_index_or}
 use Rattle.std.specs.Prelude.{sum_by}
 use Rattle.std.proofs.Math.Seq.{drop-append_seam, get_or-append_seam, take-append_seam}
@@ -12,7 +12,7 @@ use Rattle.csv_tables.specs.Cells.{held}
 use Rattle.csv_tables.specs.declared.options.Look.{Look}
 
 module _ {X Y : Type 0} (f : X → List Y) where
-  -- a list's own part of lists, joined
+  -- the part of concatenated lists that belongs to one element
   part_of : (front : List X) (x : X) (more : List X) → take (length (f x)) (drop (length (flat_map f front)) (flat_map f (front ++ x ∷ more))) ≡ f x
   part_of front x more =
       ap (λ (ys : List Y). take (length (f x)) (drop (length (flat_map f front)) ys)) (flat_map-append f front (x ∷ more))

@@ -1,4 +1,4 @@
--- Fields of records in rows of cells, and in the lines that show these.
+-- Fields of records in rows of cells, and in the lines that show them.
 use Rattle.std.proofs.Common.{◌≡◌, ◌⊎◌, ◌<◌, ◌≤◌, inl, inr, ℕ, zero, suc, ◌+◌, Bool, true, false, List, [], ◌∷◌, Option, Some, None, cond, filter, length, map, max, get_or, nat_lt, refl, unwrap_or, sym, ap, ap₂, ◌∙◌, subst, arith, decimal, ◌++◌}
 use Rattle.std.specs.List.{All, AllZip, slice_get}
 use Rattle.std.specs.Prelude.{MatchOption, option_map, if◌then◌else◌}
@@ -33,12 +33,12 @@ use Rattle.csv_promises.specs.Fields.{HoldsField, HoldsFields, fields_at, lined_
 
 -- ---- fields at positions
 
--- a row of these fields, each in bold, or not
+-- a row of these fields, each of which may be in bold
 pub record IsRowFor (sides : List CellAlignment) (fields : List Text) (row : RowValue) : Type 0 where
   pub hold : HoldsFields sides fields row
   pub weighted : All IsWeighted row.cells
 
--- the side of a column
+-- the alignment of a column
 abbrev pub own_side : ColumnPlan → CellAlignment
 own_side column = unwrap_or column.alignment Left
 
@@ -79,16 +79,16 @@ module _ (look : Look) (unkept : look.has_sequences ≡ false) (none : look.is_m
   abbrev show : Bool → List Text → ColumnPlan → Shown
   show is_aligned fields column = record { alignment = column.alignment; text = text_in look is_aligned column fields }
 
-  -- a field is cleaned, and a blank one is nothing
+  -- the text of a field is cleaned, and empty if it is blank
   same_text : (text : Text) → field_text look text ≡ unless_blank (cleaned false text)
   same_text text = ap₂ (λ (m keeps : Bool). if m then marked (cleaned false text) else unless_blank (cleaned keeps text)) none unkept
 
-  -- a cell holds what its text is cleaned to
+  -- a cell holds its cleaned text
   cell_holds : (is_bold : Bool) (alignment : Option CellAlignment) (text field : Text) → cleaned false text ≡ field → HoldsField (unwrap_or alignment Left) field (with_weight is_bold (cell_for look alignment text))
   cell_holds true alignment text field is = record { at_side = refl; texts = ap (λ (t : Text). (plain_cell t).text_lines) (same_text text ∙ ap unless_blank is); no_delimiter = refl }
   cell_holds false alignment text field is = record { at_side = refl; texts = ap (λ (t : Text). (plain_cell t).text_lines) (same_text text ∙ ap unless_blank is); no_delimiter = refl }
 
-  -- and is in bold, or isn't
+  -- the cell may be in bold
   weighted_cell : (is_bold : Bool) (alignment : Option CellAlignment) (text : Text) → IsWeighted (with_weight is_bold (cell_for look alignment text))
   weighted_cell true alignment text = record { no_foreground = refl; no_background = refl; attributes = inr refl }
   weighted_cell false alignment text = record { no_foreground = refl; no_background = refl; attributes = inl refl }
@@ -98,20 +98,20 @@ module _ (look : Look) (unkept : look.has_sequences ≡ false) (none : look.is_m
       All-map IsWeighted (λ (s : Shown). with_weight is_bold (cell_for look s.alignment s.text)) shown
       (All-every (λ (s : Shown). IsWeighted (with_weight is_bold (cell_for look s.alignment s.text))) shown (λ s. weighted_cell is_bold s.alignment s.text))
 
-  -- cells for these columns, of which those that aren't drawn are blank
+  -- the cells of a row are those of its columns; the fields of missing cells are blank
   abbrev Reaches : List Text → List ColumnPlan → List ColumnPlan → Type 0
   Reaches fields columns own = (i : ℕ) → MatchOption (slice_get columns i) (slice_get own i ≡ None) (λ d. (slice_get own i ≡ Some d) ⊎ ((slice_get own i ≡ None) × (field_or_blank fields d.position ≡ [])))
 
-  -- what each cell of a row holds
+  -- the cells of a row hold these fields
   abbrev HoldEach : List CellAlignment → List Text → RowValue → Type 0
   HoldEach sides fields row = (i : ℕ) → MatchOption (slice_get row.cells i) (field_or_blank fields i ≡ []) (HoldsField (side_at sides i) (field_or_blank fields i))
 
-  -- a text has the spaces that line up the mark of its column
+  -- a text has the spaces that align the mark of its column
   text_is : (mark : Option Points) (field : Text) → IsUtf8 field → cleaned false (spaced look.has_sequences mark field) ≡ lined_up mark field
   text_is None field utf8 = refl
   text_is (Some points) field utf8 = ap (λ (keeps : Bool). cleaned false (field ++ spaces (spaces_behind points (visible_of keeps field)))) unkept ∙ cleaned-spaced field (spaces_behind points field) utf8
 
-  -- the marks of columns are those of their positions
+  -- the marks of columns are those at their positions
   abbrev HaveMarks : (ℕ → Option Points) → Bool → List ColumnPlan → Type 0
   HaveMarks marks is_aligned columns = (i : ℕ) (d : ColumnPlan) → slice_get columns i ≡ Some d → (if is_aligned then d.points else None) ≡ marks d.position
 
@@ -151,7 +151,7 @@ module _ (look : Look) (unkept : look.has_sequences ≡ false) (none : look.is_m
           by_place (inr (past, gone)) = let short = reached-length drawn columns in slice_get_past (columns_within drawn columns) i (omega (arith, past, short))
       by_column (Some d) is = reached-at drawn columns i d is
 
-  -- the header has one for each
+  -- the header has a cell for each column
   all_own : (drawn : List Text) (columns : List ColumnPlan) → Reaches drawn columns columns
   all_own drawn columns i = by_column (slice_get columns i) refl
     where
@@ -159,7 +159,7 @@ module _ (look : Look) (unkept : look.has_sequences ≡ false) (none : look.is_m
       by_column None is = is
       by_column (Some d) is = inl is
 
-  -- behind a number, or without one
+  -- fields after a number, or without one
   behind : (is_bold is_numbered : Bool) (number : Text) → is_printable_ascii number ≡ true → (sides : List CellAlignment) (fields : List Text) (shown : List Shown) → HoldEach sides fields (cells_for look is_bold shown)
       → HoldEach (sides_after_number is_numbered sides) (row_after_number is_numbered number fields) (cells_for look is_bold (shown_number (if is_numbered then Some number else None) ++ shown))
   unfolding field_at
@@ -199,7 +199,7 @@ module _ (look : Look) (unkept : look.has_sequences ≡ false) (none : look.is_m
       are_rows is_aligned is_numbered marks have (n + 1) rows (All-tail (All IsUtf8) fields rows utf8),
     )
 
-    -- a name and a field
+    -- the row of a name and a field
     is_pair : (name field : Text) → IsRowFor [] (cleaned false name ∷ cleaned false field ∷ []) (pair_for look name field)
     unfolding field_at
     is_pair name field =
@@ -213,7 +213,7 @@ module _ (look : Look) (unkept : look.has_sequences ≡ false) (none : look.is_m
         each (suc zero) = cell_holds false None field (cleaned false field) refl
         each (suc (suc i)) = refl
 
-    -- those of a record
+    -- the rows of an expanded record
     pub are_pairs : (names fields : List Text) (own : List ColumnPlan) → AllZip (IsRowFor []) (pairs_at names (positions_of own) fields) (pairs_of look own names fields)
     are_pairs names fields [] = tt
     are_pairs names fields (column ∷ own) = by_test (nat_lt column.position (length fields)) (are_pairs names fields own)

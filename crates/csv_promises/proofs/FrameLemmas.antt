@@ -1,4 +1,4 @@
--- What the frame of a drawn table takes, and which columns it has.
+-- The width of a drawn table's frame, and its columns.
 use Rattle.std.proofs.Common.{◌≡◌, ◌≤◌, ◌<◌, ◌||◌, ℕ, ◌+◌, Bool, true, false, not, List, [], ◌∷◌, Option, Some, None, flat_map, length, map, refl, sym, ap, ◌∙◌, subst, arith, sum_by}
 use Rattle.std.specs.List.{All, enumerate_from, list_any}
 use Rattle.std.specs.Prelude.{if◌then◌else◌}
@@ -45,7 +45,7 @@ two_each (p ∷ ps) padded =
     let more = two_each ps (All-tail IsPadded p ps padded) in
     omega (arith, one, other, more, sum_by-cons (λ (q : ℕ × ColumnValue). column_padding q.1) p ps)
 
--- a frame of so many columns has room for a table of no more
+-- a frame of n columns has room for a table of at most n columns
 least : (table : TableValue) (n : ℕ) → 1 ≤ n → length table.columns ≤ n → All IsPadded (shown_columns table) → least_total table ≤ frame_room n
 least table n some few padded =
     let places = enumerate_from 0 table.columns in
@@ -58,7 +58,7 @@ least table n some few padded =
 cells-length : (look : Look) (is_bold : Bool) (shown : List Shown) → length (cells_for look is_bold shown).cells ≡ length shown
 cells-length look is_bold shown = length-map shown (λ (s : Shown). with_weight is_bold (cell_for look s.alignment s.text))
 
--- how many columns are drawn, that of numbers too
+-- the number of drawn columns, including that of record numbers
 abbrev pub places_of : SelectedValue → ℕ
 places_of content = length content.columns + (if content.is_numbered then 1 else 0)
 
@@ -84,18 +84,18 @@ rows_few look is_aligned content =
     headed None = omega arith
     headed (Some names) = omega (arith, no_fewer_columns (length (header_for look content.is_numbered content.columns names).cells) [], header_few look content names)
 
--- a drawn table has two columns at most where records are expanded, else no more than are drawn
+-- a drawn table has at most two columns if records are expanded, and otherwise at most as many as are drawn
 pub most_columns : (is_expanded has : Bool) (look : Look) (content : SelectedValue) → length (separated_table has (output_table is_expanded look content)).columns ≤ (if is_expanded then 2 else places_of content)
 most_columns true has look content = omega (arith, pairs_have_two look content, (has_rows_of look content true has).as_many)
 most_columns false has look content = omega (arith, rows_few look (is_aligned_in look content) content, (has_rows_of look content false has).as_many)
 
--- so a frame of so many has room
+-- a frame of as many columns has room for the table
 pub frame_has_room : (is_expanded has : Bool) (look : Look) (content : SelectedValue) (n : ℕ) → 1 ≤ n → (if is_expanded then 2 else places_of content) ≤ n → least_total (separated_table has (output_table is_expanded look content)) ≤ frame_room n
 frame_has_room is_expanded has look content n some few =
     let table = separated_table has (output_table is_expanded look content) in
     least table n some (omega (arith, few, most_columns is_expanded has look content)) (columns-drawn (separated has look) Any content table (any_drawn look content is_expanded has))
 
--- ---- where a width has room for rows
+-- ---- widths with room for rows
 
 module _ (look : Look) (content : SelectedValue) (has : Bool) where
   abbrev rows : TableValue
@@ -104,7 +104,7 @@ module _ (look : Look) (content : SelectedValue) (has : Bool) where
   abbrev whole : Wanted
   whole = wanted_in look content
 
-  -- it has room for the table
+  -- the width has room for the table
   pub width_has_room : (w : ℕ) → look.width ≡ Some w → has_room_for look content (is_aligned_in look content) ≡ true → least_total (separated_table has (output_table false look content)) ≤ w
   width_has_room w wide test =
       let new = recursion_from_All IsNewColumn rows.columns (any_built false (is_aligned_in look content) look content).columns in
@@ -115,13 +115,13 @@ module _ (look : Look) (content : SelectedValue) (has : Bool) where
 
 -- ---- columns that are drawn
 
--- whether a record has the field of the last column
+-- true if a record has the field of the last column
 abbrev pub has_last : List Text → List ColumnPlan → Bool
 has_last fields [] = true
 has_last fields (column ∷ []) = has_field fields column
 has_last fields (column ∷ next ∷ more) = has_last fields (next ∷ more)
 
--- so one has it
+-- true if one of the records has it
 abbrev pub reaches : List ColumnPlan → List (List Text) → Bool
 reaches columns rows = list_any (λ (fields : List Text). has_last fields columns) rows
 
@@ -136,7 +136,7 @@ all_within fields (column ∷ []) last = rw (any_to_last fields column [] last) 
 all_within fields (column ∷ next ∷ more) last = rw (any_to_last fields column (next ∷ more) last) (ap (λ (cs : List ColumnPlan). column ∷ cs) (all_within fields (next ∷ more) last))
 
 module _ (look : Look) (is_aligned is_numbered : Bool) (columns : List ColumnPlan) where
-  -- so the table has them all
+  -- the table of such a record has all columns
   all_cells : (n : ℕ) (rows : List (List Text)) (table : TableValue) → reaches columns rows ≡ true → length columns + (if is_numbered then 1 else 0) ≤ length (with_rows (map (row_for look is_aligned is_numbered columns) (counted_from n rows)) table).columns
   all_cells n [] table none = absurd (cc none)
   all_cells n (fields ∷ more) table some = by_test (all_cells (n + 1) more) (has_last fields columns) refl
@@ -154,7 +154,7 @@ module _ (look : Look) (is_aligned is_numbered : Bool) (columns : List ColumnPla
           (omega (arith, ap length (all_within fields columns own), row-length look is_aligned is_numbered (columns_within fields columns) (n, fields), cells-length look false shown, no_fewer_columns (length row.cells) table.columns))
       by_test later false own = later (with_row row table) (ap (λ (b : Bool). b || reaches columns more) (sym own) ∙ some)
 
--- the table of rows has all columns if there are names, or a record has the field of the last one
+-- the table of rows has all columns if there are names, or a record has the field of the last column
 abbrev rows_made : Look → SelectedValue → List RowValue
 rows_made look content = map (row_for look (is_aligned_in look content) content.is_numbered content.columns) (counted_from 1 content.rows)
 
@@ -167,12 +167,12 @@ reached_columns look content reach = by_names content.names refl
         with_rows-columns (places_of content) (rows_made look content) (headed_table look content.is_numbered content.columns (Some names))
         (omega (arith, header_few look content names, no_fewer_columns (length (header_for look content.is_numbered content.columns names).cells) []))
 
--- so has a drawn one
+-- the drawn table has them too
 pub row_columns : (has : Bool) (look : Look) (content : SelectedValue) → (content.names ≡ None → reaches content.columns content.rows ≡ true) → length (separated_table has (output_table false look content)).columns ≡ places_of content
 row_columns has look content reach =
     omega (arith, reached_columns look content reach, rows_few look (is_aligned_in look content) content, (has_rows_of look content false has).as_many)
 
--- that of expanded records has two, if one has a field
+-- the table of expanded records has two columns, if a record has a field
 pub pair_columns : (has : Bool) (look : Look) (content : SelectedValue) → ¬ (flat_map (pairs_in look content) content.rows ≡ []) → length (separated_table has (output_table true look content)).columns ≡ 2
 pair_columns has look content some = by_pairs (flat_map (pairs_in look content) content.rows) refl
   where
@@ -184,7 +184,7 @@ pair_columns has look content some = by_pairs (flat_map (pairs_in look content) 
         ∙ exactly_two row more (empty_table look) (subst (All HasTwo) is (pairs_are_two look content)) (omega arith) in
         omega (arith, two, (has_rows_of look content true has).as_many)
 
--- all its columns are shown, so that one is
+-- all columns of the table are shown
 all_are_shown : (is_expanded has : Bool) (look : Look) (content : SelectedValue) → shown_count (separated_table has (output_table is_expanded look content)) ≡ length (separated_table has (output_table is_expanded look content)).columns
 all_are_shown is_expanded has look content =
     ap length (has_rows_of look content is_expanded has).shown ∙ length-enumerate_from 0 (separated_table has (output_table is_expanded look content)).columns

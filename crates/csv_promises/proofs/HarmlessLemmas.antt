@@ -1,4 +1,4 @@
--- An output sends a terminal only text, and without colours of fields no sequence but those of bold.
+-- An output sends a terminal only text, and, without colours of fields, only the sequences of bold.
 use Rattle.std.proofs.Common.{◌≡◌, ◌⊎◌, ◌≤◌, ◌||◌, ◌==◌, inl, inr, append_assoc, ℕ, Bool, true, false, List, [], ◌∷◌, ◌++◌, Option, Some, None, append-nil, arith, codes, length, refl, suc, sym, unwrap_or, ap, ◌∙◌, subst}
 use Rattle.std.specs.List.{All, AllZip}
 use Rattle.std.specs.Prelude.{option_to_list}
@@ -64,15 +64,15 @@ shows_bold (bold part line styled own) clear =
 
 -- ---- lines of outputs
 
--- a line without replaced characters, and a text of such lines
+-- lines without replaced characters make a text without harmful ones
 plain_of_lines : IsOfLines HasNoneReplaced HasNothingHarmful
 plain_of_lines = record { nothing = NoCharPasses-nil is_harmful; before = harmless_before; printable = printable_is_clear }
 
--- a line of which parts are in bold
+-- a line of which parts may be in bold
 abbrev IsBoldLine : Text → Type 0
 IsBoldLine line = (own : Text) × IsInBold own line × HasNoneReplaced own
 
--- and a text of such lines
+-- a text of such lines
 abbrev IsBoldText : Text → Type 0
 IsBoldText text = (own : Text) × IsInBold own text × HasNothingHarmful own
 
@@ -123,7 +123,8 @@ no_escape_in style none =
     (λ c fails. unlike is_replaced (unwrap_or c 0x20) 0x1B refl (λ _. fails)) (style_characters style)
     (All-none (λ (c : Option ℕ). is_replaced (unwrap_or c 0x20)) (style_characters style) none))
 
--- a text of which nothing harmful is visible, with parts in bold alone, and without any
+-- the output is harmless: no harmful character of it is visible, and its only sequences are those of bold, if it has
+-- any
 harmless_for : (look : Look) (output : Text) → HasNothingHarmful (visible_text output) → ((look.has_sequences ≡ false) ⊎ (look.is_markdown ≡ true) → IsBoldText output) → (((look.has_sequences ≡ false) × (look.has_bold_header ≡ false)) ⊎ (look.is_markdown ≡ true) → HasNothingHarmful output)
     → (look.has_sequences ≡ true → HasEachLine LeavesNoneOpen output) → IsHarmlessFor look output
 harmless_for look output none in_bold unstyled closed =
@@ -223,7 +224,7 @@ module _ (look : Look) (content : SelectedValue) (is_expanded has : Bool) (clear
           unstyled_table : should_style table ≡ false
           unstyled_table = ap should_style looks ∙ ap (λ (b : Bool). b || is_tty (empty_table (separated has look))) (kept_setting (λ l. l.has_bold_header) look refl has false unbold)
 
--- no line for Markdown has any
+-- no line for Markdown has a sequence
 markdown_none : (look : Look) (content : SelectedValue) (text : Text) (drawn : RendersAsMarkdown look content text) → EachOf AllText content → All HasNoneReplaced (markdown_lines (markdown_rule look content) drawn.arranged)
 markdown_none look content text drawn own =
     each_markdown_line HasNoneReplaced look content drawn.arranged (markdown_rule look content) drawn.is_arranged
@@ -273,7 +274,7 @@ module _ (counted : Option ℕ) (layout : Layout) (records : List (List Text)) (
         output_of_lines HasNoneReplaced HasNothingHarmful plain_of_lines counted layout records output lines (with_lines counted layout records output made table_text_is none (unbroken_without look.style clear))
         (plain_lines look made.content table_text_is.is_expanded table_text_is.drawn.has_separators clear own unkept lines headline unbold)
 
-  -- if colours of fields are kept, each line is closed
+  -- if colours of fields are kept, no line leaves a sequence open
   closed_output : look.has_sequences ≡ true → HasEachLine LeavesNoneOpen output
   closed_output kept = by_markdown look.is_markdown refl
     where
@@ -305,7 +306,7 @@ module _ (counted : Option ℕ) (layout : Layout) (records : List (List Text)) (
       by_look false none (inl (unkept, unbold)) = plain_output none unkept unbold
       by_look false none (inr is) = absurd (cc (none, is))
 
--- so is an output of nothing
+-- an empty output is harmless
 pub nothing_is_harmless : (look : Look) → IsHarmlessFor look []
 nothing_is_harmless look = harmless_for look [] (NoCharPasses-nil is_harmful) (λ any. ([], bold_same [], NoCharPasses-nil is_harmful)) (λ any. NoCharPasses-nil is_harmful) (λ kept. closed_of_lines.nothing)
 

@@ -1,4 +1,4 @@
--- What is written of records is what is drawn of them, line by line, and a note.
+-- The output for records is their drawing, line by line, and a note.
 use Rattle.std.proofs.Common.{◌≡◌, ℕ, zero, suc, ◌+◌, Bool, true, false, List, [], ◌∷◌, ◌++◌, Option, Some, None, append_assoc, arith, codes, flat_map, length, nat_lt, refl, sym, ap, ap₂, ◌∙◌, subst, ◌||◌, ◌&&◌, ◌==◌, not}
 use Rattle.std.specs.Char.{is_control}
 use Rattle.std.specs.List.{All, range_with_len}
@@ -36,7 +36,7 @@ no_limited (Some (suc n)) = refl
 pub no_rows : (selection : Selection) → drawn_rows selection [] ≡ []
 no_rows selection = ap (limited selection.limit) (no_records selection.has_header).1 ∙ no_limited selection.limit
 
--- of no records nothing is drawn, and there is no note
+-- without records nothing is drawn, and there is no note
 pub nothing_noted : (Draws : Bool → Option ℕ → Text → Type 0) (MayCount : Option ℕ → Type 0) (expansion : Expansion) (selection : Selection) → MayCount (Some 0) → ((is_expanded : Bool) (count : Option ℕ) → Draws is_expanded count []) → IsDrawnWithNote Draws MayCount expansion selection []
 nothing_noted Draws MayCount expansion selection is_count empty =
     let kind = either expansion in
@@ -73,13 +73,13 @@ may_expand Always room is_expanded own = own
 may_expand Never room is_expanded own = own
 may_expand Auto room is_expanded own = tt
 
--- lines that are good
+-- lines with a property
 module _ (IsGood : Text → Type 0) where
   -- a text without lines
   pub no_lines : HasEachLine IsGood []
   no_lines = record { lines = []; are = record { joined = refl; unbroken = All-nil HasNoBreak }; each = All-nil IsGood }
 
-  -- of no records there are none
+  -- without records there are no lines
   pub nothing_drawn : (layout : Layout) (MayCount : Option ℕ → Type 0) → MayCount (Some 0) → EachLineFor IsGood MayCount layout [] []
   nothing_drawn layout MayCount is_count =
       nothing_noted (DrawsLines IsGood layout.selection.noun (drawn_rows layout.selection [])) MayCount layout.look.expansion layout.selection is_count
@@ -89,14 +89,14 @@ module _ (IsGood : Text → Type 0) where
       by_kind true count = refl
       by_kind false count = no_lines
 
-  -- of options
+  -- the same for options
   pub nothing_written : (options : Options) → EachDrawnLine IsGood options [] []
   nothing_written options = nothing_drawn (layout_with options no_columns) (IsCount options []) (none_below options.selection.has_header)
     where
       no_columns : ColumnsValue
       no_columns = record { drawn = []; right = []; left = [] }
 
-  -- those of what is drawn
+  -- the lines of a drawing
   table_lines : (is_expanded : Bool) (content : SelectedValue) (lines : List Text) (text : Text) → HasLines is_expanded content lines text → All IsGood lines → DrawsLines IsGood content.noun content.rows is_expanded content.count text
   table_lines false content lines text are good = record { lines = lines; are = are; each = good }
   table_lines true content lines text (parts, within, unbroken, is) good =
@@ -120,7 +120,7 @@ module _ (IsGood : Text → Type 0) where
         from (k + 1) rows,
       )
 
-  -- an output of records, or of the first of these, and the note
+  -- the output for records, or for the first of them, and the note
   pub output_lines : (layout : Layout) (MayCount : Option ℕ → Type 0) (records rs : List (List Text)) (known : Option ℕ) (output : Text) (lines : List Text) → layout.look.is_markdown ≡ false → MayCount known
       → drawn_rows layout.selection rs ≡ drawn_rows layout.selection records → IsOutputWith known layout rs output lines → All IsGood lines → EachLineFor IsGood MayCount layout records output
   output_lines layout MayCount records rs known output lines none is_count same made good =
@@ -139,12 +139,12 @@ module _ (IsGood : Text → Type 0) where
       shown true is e = absurd (cc is)
       shown false is e = refl
 
--- what is visible of a line without control characters is shown
+-- a line is shown as its visible text, if this has no control characters
 pub shown_line : (columns : ℕ) (line : Text) → HasNoControl (visible_text line) → measure (visible_text line) ≡ columns → ShowsColumns columns line
 shown_line columns line none is =
     (visible_text line, shows_visible (suc (length line)) line (omega arith) (none_by_characters is_control 0x1B (omega arith) refl (visible_text line) none), is)
 
--- an output that isn't for Markdown is straight where its lines without their sequences are
+-- an output that isn't for Markdown is straight if its visible lines are
 pub straight_text : (layout : Layout) (MayCount : Option ℕ → Type 0) (records rs : List (List Text)) (known : Option ℕ) (output : Text) → layout.look.is_markdown ≡ false → MayCount known → drawn_rows layout.selection rs ≡ drawn_rows layout.selection records
     → IsStraightOutput true known layout rs output → (columns : ℕ) × EachLineFor (ShowsColumns columns) MayCount layout records output
 straight_text layout MayCount records rs known output none is_count same is =

@@ -1,4 +1,4 @@
--- What is written for Markdown is a table whose lines give back the names and the drawn records.
+-- The output for Markdown is a table whose lines give back the names and the drawn records.
 use Rattle.std.proofs.Common.{ap, ap₂, arith, decimal, length, ◌≡◌, ◌≤◌, ◌<◌, ◌⊎◌, inl, inr, ℕ, ◌+◌, Bool, true, false, List, [], ◌∷◌, ◌++◌, map, Option, Some, None, unwrap_or, refl, sym, ◌∙◌, subst}
 use Rattle.std.specs.List.{All, AllZip}
 use Rattle.std.specs.Prelude.{chars, if◌then◌else◌}
@@ -48,7 +48,7 @@ abbrev positions_of : List ColumnPlan → List ℕ
 positions_of columns = map (λ (column : ColumnPlan). column.position) columns
 
 module _ (look : Look) where
-  -- a shown field is read as it is cleaned
+  -- a shown field is read back cleaned
   fields_read : (columns : List ColumnPlan) (fields : List Text) → map read_shown (shown_fields look false columns fields) ≡ map as_read (fields_at no_marks (positions_of columns) fields)
   fields_read [] fields = refl
   fields_read (column ∷ columns) fields = ap (λ (rest : List (List ℕ)). as_read (cleaned false (field_or_blank fields column.position)) ∷ rest) (fields_read columns fields)
@@ -108,7 +108,7 @@ module _ (arguments : List Text) (context : OutputContext) (invocation : Invocat
   abbrev is_numbered : Bool
   is_numbered = options.selection.is_numbered
 
-  -- the names and rows of these
+  -- the names and the rows of these records
   abbrev rows_for : Option (List Text) → List (List Text) → List (List Text)
   rows_for names rows = all_rows is_numbered no_marks (positions_in options (unwrap_or names []) rows) (Some (unwrap_or names [])) rows
 
@@ -132,7 +132,7 @@ module _ (arguments : List Text) (context : OutputContext) (invocation : Invocat
       same : back.content ≡ own
       same = sym back.is_content
 
-      -- the lines have the fields of what is drawn
+      -- the lines have the fields of the drawn records
       have : AllZip HasFields (rows_for (names_of options.selection.has_header records) (drawn_rows options.selection records)) (back.header ∷ back.lines)
       have =
           subst (λ (names : Option (List Text)). AllZip HasFields (rows_for names (drawn_rows options.selection records)) (back.header ∷ back.lines)) by.names
@@ -157,7 +157,7 @@ module _ (arguments : List Text) (context : OutputContext) (invocation : Invocat
           let counted : length (max_content_widths table) ≡ length table.columns = length-map-range_with_len (column_content_width table) 0 (length table.columns) in
           record { sides = sides back.content; widths = max_content_widths table; one_for_each = (refl, counted ∙ (headed look back.content).count); is = refl }
 
-      -- as many as a row has fields
+      -- there are as many columns as a row has fields
       counted : count_in is_numbered (positions_in options (unwrap_or (names_of options.selection.has_header records) []) (drawn_rows options.selection records)) ≡ all
       counted =
           sym (ap₂ (λ (names : Option (List Text)) (rows : List (List Text)). count_in is_numbered (positions_in options (unwrap_or names []) rows)) by.names by.rows)

@@ -29,7 +29,7 @@ use Rattle.csv_promises.specs.Messages.{IsTame, IsTameLine}
 both : (xs ys : Text) → IsTame xs → IsTame ys → IsTame (xs ++ ys)
 both = NoCharPasses-append is_replaced
 
--- printable ASCII
+-- printable ASCII has no control character
 printable : (text : Text) → is_printable_ascii text ≡ true → IsTame text
 printable [] all = NoCharPasses-nil is_replaced
 printable (b ∷ rest) all =
@@ -39,7 +39,7 @@ printable (b ∷ rest) all =
     tame : (c : ℕ) → is_in_range 0x20 0x7E c ≡ true → is_replaced c ≡ false
     tame c in_range = grind (arith, nat_tests, in_range)
 
--- a name as it is said
+-- a name as it is written in messages
 name : (text : Text) → IsTame (shown_name text)
 name text = (map (shown) (chars text), refl, none (chars text))
   where

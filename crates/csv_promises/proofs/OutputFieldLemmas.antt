@@ -1,4 +1,4 @@
--- What is written of records shows all of their fields.
+-- The output for records shows all of their fields.
 use Rattle.std.proofs.Common.{◌≡◌, ◌≤◌, ◌==◌, decimal, filter, is_some, ◌||◌, ◌&&◌, inl, inr, ℕ, zero, suc, ◌+◌, Bool, true, false, List, [], ◌∷◌, ◌++◌, Option, Some, None, drop, flat_map, length, map, max, nat_lt, take, refl, sym, ap, ap₂, ◌∙◌, subst, arith, append_assoc, length-append, slice_index_or, unwrap_or}
 use Rattle.std.specs.List.{All, AllZip, range_with_len}
 use Rattle.std.specs.Prelude.{if◌then◌else◌, option_to_list, slice_get, slice_index, sum_by}
@@ -52,7 +52,7 @@ use Rattle.csv_promises.specs.Fields.{AreLinedUp, IsDrawingOf, KeepsNumbers, Kee
 use Rattle.csv_promises.proofs.WholeLemmas.{AreColumns, kept_whole, marks-shown, pairs_keep_numbers, pairs_kept_whole, sides-shown, nowrap-shown, whole-widest}
 use Rattle.csv_promises.specs.Written.{IsWritten}
 
--- of no rows nothing
+-- without rows nothing is shown
 none_shown : (look : Look) (has_header has_names : Bool) (sides : List CellAlignment) (whole : List Bool) → ShowsRows look has_header has_names sides whole [] []
 none_shown look has_header has_names sides whole = inl (refl, refl)
 
@@ -62,7 +62,7 @@ IsPair own = length own ≡ 2
 
 -- ---- tables
 
--- what a look asks for, so that all fields are drawn
+-- a look in which all fields are drawn
 pub record DrawsAll (look : Look) : Type 0 where
   pub unkept : look.has_sequences ≡ false
   pub table : look.is_markdown ≡ false
@@ -208,7 +208,7 @@ module _ (look : Look) (all : DrawsAll look) (is_numbered : Bool) (noun : Noun) 
           subst (AllZip (IsRowFor sides) fields)
           (sym (ap₂ (λ (header : Option RowValue) (own : List RowValue). option_to_list header ++ own) (is false text renders).header (is false text renders).rows)) of_base
 
-  -- that of expanded records
+  -- the table of expanded records
   module _ (text : Text) (renders : RendersTable true look content text) (expanded : is_table_expanded look content ≡ true) where
     abbrev own_arranged : ArrangedValue
     own_arranged = arranged true text renders
@@ -231,7 +231,7 @@ module _ (look : Look) (all : DrawsAll look) (is_numbered : Bool) (noun : Noun) 
         some : ¬ (own_rows ≡ [])
         some none = subst (AllZip (IsRowFor []) (own ∷ fields)) (ap (λ (rs : List RowValue). take n (drop first rs)) (rows_are ∙ none) ∙ ap (take n) (drop-nil first) ∙ take-nil n) each
 
-    -- its numbers and dates are kept
+    -- numbers and dates that have room are kept whole
     numbers : (first n w : ℕ) → w ≤ 65535 → look.width ≡ Some w → All (KeepsNumbers look w (max 1 (slice_index (drawn true text renders).widths 1))) (take n (drop first (table true text renders).rows))
     numbers first n w small is =
         All-take (KeepsNumbers look w width) n (drop first (table true text renders).rows)
@@ -251,7 +251,7 @@ module _ (look : Look) (all : DrawsAll look) (is_numbered : Bool) (noun : Noun) 
         (λ small. pairs_kept_whole look content renders.has_separators (drawn true text renders).widths first (suc n) all.unkept (drawn true text renders).arranged)
         (λ names. numbers first (suc n)))
 
-    -- a name and a field are two
+    -- each row has a name and a field
     pairs_two : (fields : List Text) → All IsPair (pairs_at header (positions_of columns) fields)
     pairs_two fields =
         All-map IsPair (λ position. cleaned false (name_at header position) ∷ cleaned false (field_or_blank fields position) ∷ []) held_positions
@@ -260,7 +260,7 @@ module _ (look : Look) (all : DrawsAll look) (is_numbered : Bool) (noun : Noun) 
         held_positions : List ℕ
         held_positions = filter (λ position. nat_lt position (length fields)) (positions_of columns)
 
-    -- of which the field isn't in bold
+    -- the field isn't in bold
     plain_pairs : (fields : List Text) → All (HasPlainFields true) (pairs_in look content fields)
     plain_pairs fields =
         All-map (HasPlainFields true) row_of (held fields columns)
@@ -269,7 +269,7 @@ module _ (look : Look) (all : DrawsAll look) (is_numbered : Bool) (noun : Noun) 
         row_of : ColumnPlan → RowValue
         row_of column = pair_for look (name_at header column.position) (field_or_blank fields column.position)
 
-    -- from a record on
+    -- the records from one on
     from : (k : ℕ) (front rest : List (List Text)) → length front ≡ k → rows ≡ front ++ rest → AreExpanded (ShowsPairs look header (positions_of columns)) noun count (k + 1) rest (flat_map (record_text content own_arranged) (range_with_len k (length rest)))
     from k front [] at splits = refl
     from k front (fields ∷ more) at splits = (
@@ -358,7 +358,7 @@ module _ (layout : Layout) (all : DrawsAll layout.look) (known : Option ℕ) (re
   text : RendersAsTable look own made.text
   text = subst (λ (c : SelectedValue). RendersAsTable look c made.text) same (is_table_text known layout records output made all.table)
 
-  -- an output shows the names, if there are any, and the rows, and the note on further records
+  -- an output shows the names, if there are any, the rows, and the note about further records
   pub all_shown : (MayCount : Option ℕ → Type 0) → MayCount known → ShowsAllFields MayCount layout records output
   all_shown MayCount is_count =
       record {
@@ -371,7 +371,7 @@ module _ (layout : Layout) (all : DrawsAll layout.look) (known : Option ℕ) (re
         joined = made.joined ∙ ap₂ (λ (b : Bool) (c : SelectedValue). made.text ++ note_for c.noun b layout.selection.limit c.count) all.table same;
       }
 
--- of no records nothing is shown
+-- without records nothing is shown
 pub none_of_all : (MayCount : Option ℕ → Type 0) → MayCount (Some 0) → (layout : Layout) → ShowsAllFields MayCount layout [] []
 none_of_all MayCount is_count layout =
     nothing_noted (Shows (names_of layout.selection.has_header []) (drawn_rows layout.selection [])) MayCount layout.look.expansion layout.selection is_count
@@ -386,7 +386,7 @@ none_of_all MayCount is_count layout =
     by_kind true count = refl
     by_kind false count = (layout.look.aligns_decimals, record { without_width = λ none. refl; unasked = λ no. no }, none_shown layout.look false false _ _)
 
--- so of what is written for arguments
+-- the same for the output for arguments
 module _ (arguments : List Text) (context : OutputContext) (invocation : Invocation) (input : Text) (records : List (List Text)) (output : Text) (is : IsWritten false arguments context invocation input records output) where
   abbrev options : Options
   options = invocation.options

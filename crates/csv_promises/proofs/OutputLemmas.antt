@@ -1,4 +1,4 @@
--- A text of which nothing harmful is visible, and what a call of `draw` has written.
+-- Texts in which nothing harmful is visible, and the output of a call of `draw`.
 use Rattle.std.proofs.Common.{Ok, inl, inr, suc, length, refl, arith}
 use Rattle.comfy_parts.proofs.CallerLemmas.{none_by_characters}
 use Rattle.comfy_parts.specs.Text.{Text}
@@ -15,7 +15,7 @@ use Rattle.csv_promises.specs.Harmless.{ShowsNothingHarmful}
 pub harmless_text : (text : Text) → HasNothingHarmful (visible_text text) → ShowsNothingHarmful text
 harmless_text text none = (visible_text text, shows_visible (suc (length text)) text (omega arith) (none_by_characters is_harmful 0x1B (omega arith) refl (visible_text text) none), none)
 
--- what a call of `draw` that succeeded has written
+-- the output of a call of `draw` that succeeded
 pub written_of : (T : Type 0) (x : T) (options : Options) (facts : RunFacts) → IsAfter {T = T} options (Ok x) facts → IsDrawnOf options facts.input facts.written
 written_of T x options facts (inl after) = inl (after.none_is_enough after.says.whole, after.says.output)
 written_of T x options facts (inr part) = inr (part.n, part.is_asked, part.says.output)

@@ -16,12 +16,12 @@ module _ {A : Type 0} (names : List Text) (count : ℕ) where
   abbrev step : Result (List ℕ) ColumnFault → String A → Result (List ℕ) ColumnFault
   step found word = joined found (positions_of_word names count (string_bytes word))
 
-  -- a fault stays
+  -- a fault remains
   still_faulty : (fault : ColumnFault) (words : List (String A)) (ps : List ℕ) → ¬ (fold step (Err fault) words ≡ Ok ps)
   still_faulty fault [] ps is = cc is
   still_faulty fault (word ∷ words) ps is = still_faulty fault words ps is
 
-  -- so each word chooses columns
+  -- without a fault, each word chooses columns
   each_found : (words : List (String A)) (before ps : List ℕ) → fold step (Ok before) words ≡ Ok ps → ps ≡ before ++ positions_by_each names count words
   each_found [] before ps is = let same : before ≡ ps = cc is in sym same ∙ sym (append-nil before)
   each_found (word ∷ words) before ps is = by_word (option_map positions_between (columns_chosen names count (string_bytes word))) (λ own. each_found words (before ++ own) ps) is
@@ -31,7 +31,7 @@ module _ {A : Type 0} (names : List Text) (count : ℕ) where
       by_word (Some own) more is = more own is ∙ append_assoc before own (positions_by_each names count words)
       by_word None more is = absurd (still_faulty (missing (string_bytes word) (hint_for names count (string_bytes word))) words ps is)
 
-  -- or all of them choose one
+  -- the words are a name together, or each chooses columns
   pub found_by : (words : List (String A)) (ps : List ℕ) → positions_of names count words ≡ Ok ps → ps ≡ positions_by names count words
   found_by words ps = by_name (whole_name names words)
     where
@@ -46,7 +46,7 @@ module _ {A : Type 0} (names : List Text) (count : ℕ) where
       by_test true is = let same : range_with_len 0 filled ≡ ps = cc is in sym same
       by_test false is = found_by words ps is
 
--- positions that are left are these, and there is one
+-- positions that are left are unchanged, and there is at least one
 left_as_they_are : (positions kept : List ℕ) → some_left positions ≡ Ok kept → (kept ≡ positions) × (1 ≤ length kept)
 left_as_they_are positions kept = by_test (length positions == 0) refl
   where
@@ -64,7 +64,7 @@ kept_positions {A} names counts words dropped kept is = by_lists (chosen_columns
     by_lists (Ok ps) (Err fault) all some is = absurd (cc is)
     by_lists (Err fault) left all some is = absurd (cc is)
 
--- there is one
+-- at least one position is left
 some_are_left : (chosen dropped : Result (List ℕ) ColumnFault) (kept : List ℕ) → less chosen dropped ≡ Ok kept → 1 ≤ length kept
 some_are_left (Err fault) dropped kept is = absurd (cc is)
 some_are_left (Ok ps) (Err fault) kept is = absurd (cc is)
@@ -84,7 +84,7 @@ chosen names (Ok ps) (Ok right) (Err fault) columns is = absurd (cc is)
 chosen names (Ok ps) (Err fault) left columns is = absurd (cc is)
 chosen names (Err fault) right left columns is = absurd (cc is)
 
--- so are those at its sides
+-- the right-aligned and the left-aligned columns are those that words choose
 pub at_sides : (names : List Text) (kept right left : Result (List ℕ) ColumnFault) (columns : ColumnsValue) → columns_with names kept right left ≡ Ok columns → (right ≡ Ok columns.right) × (left ≡ Ok columns.left)
 at_sides names (Ok ps) (Ok right) (Ok left) columns is =
     let same = placed names (record { drawn = ps; right = right; left = left }) columns (at_two_sides right left) is in

@@ -1,4 +1,4 @@
--- The records that are drawn, and the columns that the cells of their rows have.
+-- The drawn records, and the columns for the cells of their rows.
 use Rattle.std.proofs.Common.{◌≡◌, ◌<◌, ◌≤◌, ℕ, take, Bool, true, false, List, [], ◌∷◌, ◌++◌, Option, Some, None, flat_map, length, map, max, refl, sym, ap, subst, arith, append_assoc, length-append}
 use Rattle.std.specs.List.{All}
 use Rattle.std.specs.Prelude.{option_to_list}
@@ -21,7 +21,7 @@ use Rattle.csv_tables.specs.declared.options.Look.{Look}
 abbrev pub HasColumns : TableValue → RowValue → Type 0
 HasColumns table row = length row.cells ≤ length table.columns
 
--- so it is in a table to which rows are appended
+-- it still has one after rows are appended to the table
 rows_have_columns : (rows : List RowValue) (t : TableValue) → All (HasColumns t) (header_and_rows t) → All (HasColumns (with_rows rows t)) (header_and_rows (with_rows rows t))
 rows_have_columns [] t each = each
 rows_have_columns (row ∷ rows) t each =
@@ -46,7 +46,7 @@ pub table_has_columns : (is_expanded is_aligned : Bool) (look : Look) (content :
 table_has_columns true is_aligned look content = rows_have_columns (flat_map (pairs_in look content) content.rows) (empty_table look) (All-nil (HasColumns (empty_table look)))
 table_has_columns false is_aligned look content = rows_have_columns (map (row_for look is_aligned content.is_numbered content.columns) (counted_from 1 content.rows)) (headed_table look content.is_numbered content.columns content.names) (header_has_columns look content.is_numbered content.columns content.names)
 
--- further rows leave the header as it is, and take no column away
+-- further rows leave the header as it is, and remove no column
 pub with_rows-header : (rows : List RowValue) (t : TableValue) → (with_rows rows t).header ≡ t.header
 with_rows-header [] t = refl
 with_rows-header (row ∷ rows) t = with_rows-header rows (with_row row t)
@@ -61,13 +61,13 @@ all_limited : {A : Type 0} (P : A → Type 0) (limit : Option ℕ) (xs : List A)
 all_limited P None xs each = each
 all_limited P (Some n) xs each = All-take P n xs each
 
--- what holds of each record holds of the header and the rows that are drawn
+-- a property of each record is one of the header and of each drawn row
 pub all_drawn : (P : List Text → Type 0) (has_header : Bool) (limit : Option ℕ) (records : List (List Text)) → All P records → All P (option_to_list (names_of has_header records) ++ limited limit (records_below has_header records))
 all_drawn P true limit [] each = all_limited P limit [] (All-nil P)
 all_drawn P true limit (names ∷ rows) each = All-cons P names (limited limit rows) (All-head P names rows each) (all_limited P limit rows (All-tail P names rows each))
 all_drawn P false limit records each = all_limited P limit records each
 
--- where more records than are drawn stand in front of others, the same header and the same rows are drawn of all
+-- if more records are read than are drawn, the same header and the same rows are drawn of all records
 pub record AreDrawnFirst (has_header : Bool) (limit : ℕ) (first all : List (List Text)) : Type 0 where
   pub names : names_of has_header first ≡ names_of has_header all
   pub rows : limited (Some limit) (records_below has_header first) ≡ limited (Some limit) (records_below has_header all)

@@ -1,4 +1,4 @@
--- The table that is drawn of records, and what its parts show.
+-- The table that is drawn of records, and the fields that its parts show.
 use Rattle.std.proofs.Common.{◌≡◌, ◌≤◌, ◌⊎◌, inl, inr, is_some, ◌||◌, ℕ, Bool, true, false, not, List, [], ◌∷◌, ◌++◌, Option, Some, None, drop, filter, length, max, take, refl, sym, ap, ◌∙◌, subst, arith}
 use Rattle.std.specs.List.{All, AllByRecursion, AllZip, enumerate_from}
 use Rattle.std.specs.Prelude.{Contains, if◌then◌else◌, option_to_list, slice_index}
@@ -35,7 +35,7 @@ use Rattle.csv_promises.specs.Harmless.{IsInBold}
 abbrev is_shown : ℕ × ColumnValue → Bool
 is_shown p = not (is_hidden_column p.1)
 
--- a table has the rows of another, and as many columns, all of which are shown
+-- a table has the rows of another one, and as many columns, all of which are shown
 pub record HasRowsOf (base t : TableValue) : Type 0 where
   pub header : t.header ≡ base.header
   pub rows : t.rows ≡ base.rows
@@ -66,7 +66,7 @@ second_are_seen field [] new = tt
 second_are_seen field (names ∷ []) new = (new_is_seen names new.0, tt)
 second_are_seen field (names ∷ fields ∷ more) new = (new_is_seen names new.0, (refl, new_are_seen more new.1.1))
 
--- the cells of a row have neither colours nor attributes, but for that of a name
+-- the cells of a row have neither colours nor attributes, except that of a name
 abbrev pub HasPlainFields : Bool → RowValue → Type 0
 HasPlainFields has_names row = All IsUncoloured (cells_after_name has_names row)
 

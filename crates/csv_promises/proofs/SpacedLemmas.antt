@@ -1,4 +1,4 @@
--- Fields with spaces behind them are cleaned.
+-- Fields with spaces after them are cleaned.
 use Rattle.std.proofs.Common.{◌≡◌, ℕ, zero, suc, false, List, [], ◌∷◌, ◌++◌, chars, sym, ap, ◌∙◌, arith, append-nil, append_assoc}
 use Rattle.std.specs.Prelude.{fold, slice_index, ◌<◌}
 use Rattle.std.proofs.lemmas.List.{map-append}
@@ -26,7 +26,7 @@ single c = record { is_sequence = false; bytes = c ∷ [] }
 abbrev folded : CleanedText → List ℕ → CleanedText
 folded s cs = fold after_piece s (pieces false cs)
 
--- spaces stay behind what a field is cleaned to
+-- spaces stay after a cleaned field
 pub cleaned-spaced : (field : Text) (n : ℕ) → IsUtf8 field → cleaned false (field ++ spaces n) ≡ cleaned false field ++ spaces n
 cleaned-spaced field n utf8 =
     ap (λ (cs : List ℕ). (folded start cs).text) (chars-append field (spaces n) utf8 ∙ ap (λ (cs : List ℕ). chars field ++ cs) (chars-IsAscii (spaces n) (space_below n)))

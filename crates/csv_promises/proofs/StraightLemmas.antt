@@ -1,4 +1,4 @@
--- What is written for arguments is straight: where no character takes more than one terminal column, or where no width is kept to.
+-- The output for arguments is straight if no character takes more than one terminal column, or if there is no width.
 use Rattle.std.proofs.Common.{◌≡◌, ℕ, false, List, [], Option, Some, None, is_some, refl, ◌∙◌}
 use Rattle.comfy_parts.specs.Text.{Text}
 use Rattle.csv_command.proofs.StyleLemmas.{parsed_style_is_one_column, parsed_style_without_controls}
@@ -17,7 +17,7 @@ use Rattle.csv_promises.specs.Counted.{IsCount}
 use Rattle.csv_promises.specs.Straight.{EachField, FieldsFitTheirColumns, IsPlainField, IsStraight}
 use Rattle.csv_promises.specs.Written.{IsWritten}
 
--- of a table that isn't for Markdown
+-- the output of a table that isn't for Markdown
 module _ (arguments : List Text) (context : OutputContext) (invocation : Invocation) (input : Text) (records : List (List Text)) (output : Text) (is : IsWritten false arguments context invocation input records output) where
   abbrev options : Options
   options = invocation.options
@@ -49,7 +49,7 @@ module _ (arguments : List Text) (context : OutputContext) (invocation : Invocat
     whole_law : options.look.width ≡ None → options.look.max_height ≡ None → EachField IsPlainField records → IsStraight options records output
     whole_law no_width uncut each = drawn.whole_law known layout rs output plain_output (IsCount options records) records by.counted by.rows no_width uncut (own IsPlainField each)
 
-    -- characters that have room for all records have it for these
+    -- characters that have room for all records have room for these
     pub each_fits : FieldsFitTheirColumns options records → CharactersFitEachWidth known layout rs
     each_fits fit content table widths same drawn_so arranged = fit known by.made.columns (same_columns false arguments context invocation input records output is known rs by ∙ by.made.are_chosen) content table widths (same_content false arguments context invocation input records output is known rs by ∙ same) drawn_so arranged
 
@@ -59,19 +59,19 @@ module _ (arguments : List Text) (context : OutputContext) (invocation : Invocat
   no_line : records ≡ [] → output ≡ [] → IsStraight options records output
   no_line none empty = (0, nothing false arguments context invocation input records output is (ShowsColumns 0) none empty)
 
-  -- where no character takes more than one terminal column
+  -- no character takes more than one terminal column
   pub narrow_for : EachField (HasCharactersWithin 1) records → IsStraight options records output
   narrow_for each = by_extent false arguments context invocation input records output is (IsStraight options records output) no_line (λ known rs by. narrow_law known rs by each)
 
-  -- and where no width is kept to and no row is cut
+  -- there is no width, and no row is cut
   pub whole_for : options.look.width ≡ None → options.look.max_height ≡ None → EachField IsPlainField records → IsStraight options records output
   whole_for no_width uncut each = by_extent false arguments context invocation input records output is (IsStraight options records output) no_line (λ known rs by. whole_law known rs by no_width uncut each)
 
-  -- and where each character of the fields has room in its column
+  -- each character of the fields has room in its column
   pub fitting_for : FieldsFitTheirColumns options records → IsStraight options records output
   fitting_for fit = by_extent false arguments context invocation input records output is (IsStraight options records output) no_line (λ known rs by. fitting_law known rs by fit)
 
--- what isn't some is none
+-- an option that isn't `Some` is `None`
 pub none_where : {A : Type 0} (o : Option A) → false ≡ is_some o → o ≡ None
 none_where None is = refl
 none_where (Some x) is = absurd (cc is)

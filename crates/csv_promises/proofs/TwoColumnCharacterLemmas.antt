@@ -1,4 +1,4 @@
--- In a width with room each text fits its column whose characters take at most two terminal columns, and no more than one of its lines.
+-- In a width with room, a text whose characters take at most two terminal columns fits its column.
 use Rattle.std.proofs.Common.{◌≡◌, ◌<◌, ◌≤◌, ℕ, ◌+◌, Bool, true, false, not, List, [], ◌∷◌, Option, Some, None, flat_map, length, map, max, min, nat_le, slice_get, slice_index, slice_index_or, unwrap_or, refl, sym, ap, ◌∙◌, subst, arith, ⊎_elim, le_trans}
 use Rattle.std.specs.List.{All, AllByRecursion, enumerate_from}
 use Rattle.std.specs.Prelude.{if◌then◌else◌}
@@ -35,12 +35,13 @@ use Rattle.csv_promises.proofs.TwoColumnTableLemmas.{HasRoomFor, HasTwoAt, two_o
 
 -- ---- texts
 
--- a text fits each column of two terminal columns or more, and each that is as wide as all its lines at some width
+-- a text fits each column of at least two terminal columns, and each column that is as wide as all its lines at some
+-- width
 pub record FitsTwo (text : Text) : Type 0 where
   pub two : (n : ℕ) → 2 ≤ n → CharactersFit n text
   pub lines : (w n : ℕ) → 1 ≤ n → All (λ (line : Text). measure line ≤ n) (lines_of_text w 0x20 text) → CharactersFit n text
 
--- so does one of printable ASCII
+-- so does printable ASCII
 printable_two : HoldsOfShort FitsTwo
 printable_two text printable few =
     let one = printable_fits text printable in
@@ -49,7 +50,7 @@ printable_two text printable few =
 empty_two : FitsTwo []
 empty_two = let one = printable_fits [] refl in record { two = λ n some. wider_column 1 n (omega (arith, some)) [] one; lines = λ w n some fit. wider_column 1 n some [] one }
 
--- a text that measures no more than a column fits it
+-- a text that is at most as wide as a column fits it
 narrow-fits : (n : ℕ) (text : Text) → FitsTwo text → 1 ≤ n → measure text ≤ n → CharactersFit n text
 narrow-fits n text fits some short =
     let whole : lines_of_text n 0x20 text ≡ text ∷ [] = ap (λ (b : Bool). if b then text ∷ [] else wrapped n 0x20 text) (le-leb (measure text) n short) in
@@ -57,7 +58,7 @@ narrow-fits n text fits some short =
 
 -- ---- the longest line
 
--- what a part gives is within the greatest of all
+-- the greatest value of a part is at most the greatest of all parts
 parts-within : {X Y : Type 0} (f : Y → ℕ) (g : X → List Y) (xs : List X) → AllByRecursion (λ (x : X). greatest (map f (g x)) ≤ greatest (map f (flat_map g xs))) xs
 parts-within f g [] = tt
 parts-within {X} f g (x ∷ xs) =
@@ -66,7 +67,7 @@ parts-within {X} f g (x ∷ xs) =
       every-weaker (λ (y : X). greatest (map f (g y)) ≤ greatest (map f (flat_map g xs))) (λ (y : X). greatest (map f (g y)) ≤ greatest (map f (flat_map g (x ∷ xs)))) xs (λ y below. omega (arith, all, below)) (parts-within f g xs),
     )
 
--- no line of a text of a cell is wider than the longest line of the cell
+-- no line of a cell's text is wider than the longest line of the cell
 lines-within : (b d : ℕ) (texts : List Text) → All (λ (text : Text). All (λ (line : Text). measure line ≤ greatest (map measure (flat_map (lines_of_text b d) texts))) (lines_of_text b d text)) texts
 lines-within b d texts =
     All-weaker (λ (text : Text). greatest (map measure (lines_of_text b d text)) ≤ most) (λ (text : Text). All (λ (line : Text). measure line ≤ most) (lines_of_text b d text))
@@ -79,14 +80,14 @@ lines-within b d texts =
 
 -- ---- cells
 
--- positions of columns are within their count
+-- positions of columns are less than their count
 places-within : (n : ℕ) (columns : List ColumnValue) → AllByRecursion (λ (p : ℕ × ColumnValue). p.0 < n + length columns) (enumerate_from n columns)
 places-within n [] = tt
 places-within n (column ∷ more) =
     (omega arith, every-weaker (λ (p : ℕ × ColumnValue). p.0 < n + 1 + length more) (λ (p : ℕ × ColumnValue). p.0 < n + length (column ∷ more)) (enumerate_from (n + 1) more) (λ p below. omega (arith, below)) (places-within (n + 1) more))
 
 module _ (table : TableValue) (i width : ℕ) (two : HasTwoAt table i width) (plain : table.delimiter ≡ None) where
-  -- a cell's texts fit, if it is one of the column
+  -- the texts of a cell fit the width of its column
   abbrev TextsFitWidth : CellValue → Type 0
   TextsFitWidth cell = cell.delimiter ≡ None → All FitsTwo cell.text_lines → All (CharactersFit (max 1 width)) cell.text_lines
 
@@ -129,7 +130,7 @@ module _ (table : TableValue) (i width : ℕ) (two : HasTwoAt table i width) (pl
 
 -- ---- tables
 
--- so do the texts of a drawn table whose columns have two
+-- the texts of a drawn table fit if each column has two terminal columns
 each_cell_fits : (look : Look) (none : look.has_sequences ≡ false) (content : SelectedValue) (table : TableValue) (widths : List ℕ) → IsDrawn look (IsDefaultRowOf FitsTwo) content table
     → ((i : ℕ) → i < length table.columns → HasTwoAt table i (slice_index widths i)) → EachCell CharactersFitColumn table widths
 each_cell_fits look none content table widths known two k default under j other below cell found =
@@ -153,7 +154,7 @@ each_separated : (look : Look) (has is_aligned : Bool) (content : SelectedValue)
 each_separated look true is_aligned content each = each
 each_separated look false is_aligned content each = record { fields = each.fields; shown = each.shown }
 
--- if a width has room for each table that may be drawn, each character of such fields has room in its column
+-- if the width has room for each table that may be drawn, each character of such fields has room in its column
 pub two_fit_each_width : (w : ℕ) (counted : Option ℕ) (layout : Layout) (records : List (List Text)) → layout.look.width ≡ Some w → layout.look.has_sequences ≡ false → EachText FitsTwo layout.look records
     → ((content : SelectedValue) (table : TableValue) → selected_of counted layout records ≡ content → IsDrawnTable layout.look content table → HasRoomFor w layout.look content table) → CharactersFitEachWidth counted layout records
 two_fit_each_width w counted layout records wide none each room content table widths is (has, made) arranged =

@@ -1,4 +1,5 @@
--- In a room that is enough each column gets two terminal columns, or its content, or is as wide as its longest line at some width.
+-- If there is enough room, each column gets two terminal columns, or its content, or the width of its longest line at
+-- some width.
 use Rattle.std.proofs.Common.{◌≡◌, ◌<◌, ◌≤◌, ◌==◌, ◌&&◌, ◌||◌, ℕ, zero, suc, ◌+◌, ◌-◌, ◌*◌, ◌/◌, Bool, true, false, cond, not, List, [], ◌∷◌, ◌++◌, Option, Some, None, append-nil, filter, is_none, length, max, min, nat_le, option_map, sum_by, unwrap_or, refl, sym, ap, ◌∙◌, subst, arith, eq-zero-or-pos, ⊎_elim, inl, inr}
 use Rattle.std.specs.List.{AllByRecursion, AllZip, cons_option, enumerate_from, list_any}
 use Rattle.std.specs.Prelude.{◌⊎◌, ⊤, if◌then◌else◌}
@@ -21,23 +22,23 @@ use Rattle.csv_tables.proofs.LeastLemmas.{lower_or_one}
 
 -- ---- what is promised
 
--- two terminal columns, or the content
+-- two terminal columns, or the content if it is narrower
 abbrev pub two_of : ColumnNeeds → ℕ
 two_of column = min 2 column.content
 
--- a width has as many; or it is no less than the longest line at some width, of which three terminal columns stay free
+-- a width has as many; or it has room for the longest line at some width, which leaves three terminal columns free
 abbrev pub HasTwo : ColumnNeeds → ℕ → Type 0
 HasTwo column width = (two_of column ≤ width) ⊎ ((b : ℕ) × (column.longest b + 3 ≤ b) × (max 1 (column.longest b) ≤ width))
 
--- what a column without a fixed width needs: what its lower boundary takes, or two, or its content
+-- the need of a column without a fixed width: its lower boundary without padding, two terminal columns, or its content
 abbrev pub needed_of : ColumnNeeds → ℕ
 needed_of column = max (lower_or_one column.padding column.lower) (two_of column)
 
--- a fixed width, or that
+-- a fixed width, or else that need
 abbrev pub needed_in_all : ColumnNeeds → ℕ
 needed_in_all column = unwrap_or column.fixed (needed_of column)
 
--- no fixed width and no lower boundary that is taken is below that, and there is no upper boundary
+-- fixed widths and lower boundaries are at least that wide, and there is no upper boundary
 pub record KeepsTwo (column : ColumnNeeds) : Type 0 where
   pub fixed : (width : ℕ) → column.fixed ≡ Some width → two_of column ≤ width
   pub lower : (b width : ℕ) → lower_of_boundary b column.padding column.lower ≡ Some width → two_of column ≤ width
@@ -56,7 +57,7 @@ takes : (b padding : ℕ) (o : Option ℕ) (width : ℕ) → lower_of_boundary b
 takes b padding None width is = absurd (cc is)
 takes b padding (Some l) width is = grind arith
 
--- some columns need no more than all
+-- some columns need at most as much as all columns
 fewer : (taken : List Claim) (columns : List Positioned) → sum_by needed_at (without_claims taken columns) ≤ sum_by needed_at columns
 fewer taken [] = omega arith
 fewer taken (c ∷ columns) = by_test (not (list_any (λ (t : Claim). t.0 == c.0) taken)) (fewer taken columns)
@@ -68,7 +69,7 @@ fewer taken (c ∷ columns) = by_test (not (list_any (λ (t : Claim). t.0 == c.0
     by_test true own = omega (arith, own, sum_by-cons needed_at c rest, sum_by-cons needed_at c columns)
     by_test false own = omega (arith, own, sum_by-cons needed_at c columns)
 
--- one of them takes its part
+-- one of the columns takes its part of this sum
 abbrev HasPart : List Positioned → Positioned → Type 0
 HasPart columns p = (width : ℕ) → needed_at p + sum_by needed_at (without_claims ((p.0, width) ∷ []) columns) ≤ sum_by needed_at columns
 
@@ -90,7 +91,7 @@ each_part (c ∷ columns) = (
     by_test p width true own = omega (arith, own, sum_by-cons needed_at c (rest p.0 width), sum_by-cons needed_at c columns)
     by_test p width false own = omega (arith, own, sum_by-cons needed_at c columns)
 
--- so do all that are taken one after another
+-- so do all columns that are taken one after another
 module _ (candidates : List Positioned) (offer : List Claim → Positioned → Option ℕ) (takes : (taken : List Claim) (p : Positioned) (width : ℕ) → offer taken p ≡ Some width → width ≤ needed_at p) where
   taken_within : (from : ℕ) (taken order : List Claim) → IsTakenAfter candidates offer from taken order → total order + sum_by needed_at (without_claims (taken ++ order) candidates) ≤ sum_by needed_at (without_claims taken candidates)
   taken_within from taken [] ends = omega (arith, ap (λ (ts : List Claim). sum_by needed_at (without_claims ts candidates)) (append-nil taken))
@@ -103,12 +104,12 @@ module _ (candidates : List Positioned) (offer : List Claim → Positioned → O
       let order = ap (λ (ts : List Claim). sum_by needed_at (without_claims ts candidates)) (append_assoc taken (t ∷ []) more) in
       omega (arith, part, takes taken (t.0, next.column) t.1 next.offered, later, pushed, order, sum_by-cons (λ (s : Claim). s.1) t more)
 
--- each needs one terminal column at least
+-- each column needs at least one terminal column
 some_each : (columns : List Positioned) → length columns ≤ sum_by needed_at columns
 some_each [] = omega arith
 some_each (p ∷ more) = omega (arith, some_lower p.1.padding p.1.lower, some_each more, sum_by-cons needed_at p more)
 
--- the fixed widths, and what the others need
+-- the fixed widths, and the needs of the other columns
 fixed_and_needed : (n : ℕ) (columns : List ColumnNeeds)
     → total (fixed_claims (enumerate_from n columns)) + sum_by needed_at (filter (λ (p : Positioned). is_none p.1.fixed) (enumerate_from n columns)) ≡ sum_by needed_in_all columns
 fixed_and_needed n [] = refl
@@ -127,11 +128,11 @@ fixed_and_needed n (column ∷ more) = by_fixed column.fixed (fixed_and_needed (
 
 -- ---- a level of one
 
--- without an upper boundary a level settles a content that fits it
+-- without an upper boundary, a level settles a content that fits it
 settles : (level : ℕ) (column : ColumnNeeds) → column.upper ≡ None → settled_at (Some level) column ≡ (if nat_le column.content level then Some (max 1 column.content) else None)
 settles level column none = ap (λ (o : Option ℕ). fit_at level column (upper_at level column o)) none
 
--- a level of one settles what needs one, and leaves what needs two
+-- a level of 1 settles the columns that need 1, and leaves those that need 2
 settled_needs : (columns : List Positioned) → AllByRecursion (λ (p : Positioned). p.1.upper ≡ None) columns
     → total (settled_claims (Some 1) columns) + 2 * length columns ≤ sum_by needed_at columns + 2 * length (settled_claims (Some 1) columns)
 settled_needs [] each = omega arith
@@ -153,15 +154,15 @@ settled_needs (p ∷ more) each =
 
 -- ---- claims
 
--- a claim of a column at its place is as R wants it
+-- a claim of a column at its position has property R for this column
 claim_for : (R : ColumnNeeds → ℕ → Type 0) (columns : List ColumnNeeds) (p : Positioned) (width : ℕ) → IsColumnAt columns p → R p.1 width → IsClaimFor R columns (p.0, width)
 claim_for R columns p width at holds column same = let one : p.1 ≡ column = cc (at, same) in subst (λ (c : ColumnNeeds). R c width) one holds
 
--- what a column shrinks to
+-- the width that a column shrinks to
 shrinks : (b : ℕ) (column : ColumnNeeds) (width : ℕ) → shrunk_at b column ≡ Some width → (column.longest b + 3 ≤ b) × (width ≡ max 1 (column.longest b))
 shrinks b column width same = grind arith
 
--- what a level settles
+-- a width that a level settles has two terminal columns, or the content
 settled-two : (level : Option ℕ) (column : ColumnNeeds) (width : ℕ) → column.upper ≡ None → settled_at level column ≡ Some width → two_of column ≤ width
 settled-two None column width none is = absurd (cc is)
 settled-two (Some level) column width none is = by_test (nat_le column.content level) (sym (settles level column none) ∙ is)
@@ -184,7 +185,7 @@ module _ (columns : List ColumnNeeds) (candidates : List Positioned) (offer : Li
 module _ (room : ℕ) (columns : List ColumnNeeds) (keeps : AllByRecursion KeepsTwo columns)
     (enough : sum_by (λ (column : ColumnNeeds). column.padding) columns + sum_by needed_in_all columns ≤ room)
     (full : Bool) (steps : Steps) (widths : List ℕ) (arranged : IsArrangedBy room columns full steps widths) where
-  -- a column at its place that keeps two
+  -- a column at its position that keeps two terminal columns
   abbrev IsKept : Positioned → Type 0
   IsKept p = IsColumnAt columns p × KeepsTwo p.1
 
@@ -221,14 +222,14 @@ module _ (room : ℕ) (columns : List ColumnNeeds) (keeps : AllByRecursion Keeps
   even_kept : AllByRecursion IsKept (even_columns room columns steps)
   even_kept = every-filter IsKept (λ (p : Positioned). not (has_claim steps.shrunk p.0)) left left_kept
 
-  -- lower boundaries leave room for what the others need
+  -- lower boundaries leave room for the needs of the other columns
   rest_fits : sum_by needed_at rest ≤ rest_room
   rest_fits =
       let within = taken_within free (lower_offer (content_room room columns) free) (λ taken p width is. omega (arith, takes (average (content_room room columns) free taken) p.1.padding p.1.lower width is)) 0 [] steps.lower arranged.lower_taken in
       let all = ap (sum_by needed_at) (without_claims-nil free) in
       omega (arith, within, all, enough, fixed_and_needed 0 columns, total-fixed 0 columns)
 
-  -- at a level of one nothing is left
+  -- at a level of 1 no column is left
   none_left : steps.level ≡ Some 1 → length left ≡ 0
   none_left one = ⊎_elim (λ none. none) (λ some. absurd (contradicts some)) (eq-zero-or-pos (length left))
     where
@@ -254,7 +255,7 @@ module _ (room : ℕ) (columns : List ColumnNeeds) (keeps : AllByRecursion Keeps
           let two : 2 ≤ (rest_room - total settled) / length (left_by (Some 1) rest) = le-div 2 (rest_room - total settled) (length (left_by (Some 1) rest)) (omega (arith, same, some)) (omega (arith, same, counts, needs, rest_fits)) in
           omega (arith, is, two)
 
-  -- the even columns have room for two each
+  -- the even columns have room for two terminal columns each
   even_twice : 2 * even_count ≤ room_left room columns steps
   even_twice = by_level steps.level refl
     where
@@ -309,7 +310,7 @@ module _ (room : ℕ) (columns : List ColumnNeeds) (keeps : AllByRecursion Keeps
       spread : ℕ
       spread = max (room_left room columns steps) even_count
 
-  -- each content has two
+  -- each content width has two terminal columns
   contents_two : AllZip HasTwo columns (contents_after room columns steps)
   contents_two =
       all_zip-contents HasTwo columns (all_claims room columns steps) 0 columns
@@ -321,11 +322,11 @@ module _ (room : ℕ) (columns : List ColumnNeeds) (keeps : AllByRecursion Keeps
       (every-append (IsClaimFor HasTwo columns) (settled_claims steps.level rest) (steps.shrunk ++ even_shares room columns steps) settled_for
       (every-append (IsClaimFor HasTwo columns) steps.shrunk (even_shares room columns steps) shrunk_for even_for))))
 
--- a wider one has two as well
+-- a greater width has them as well
 wider : (column : ColumnNeeds) (width more : ℕ) → HasTwo column width → HasTwo column (width + more)
 wider column width more has = ⊎_elim (λ two. inl (omega (arith, two))) (λ (b, free, long). inr (b, free, omega (arith, long))) has
 
--- what is added leaves them so
+-- added widths leave them
 added_two : (columns : List ColumnNeeds) (xs ys : List ℕ) → length ys ≡ length columns → AllZip HasTwo columns xs → AllZip HasTwo columns (added xs ys)
 added_two [] [] ys same each = tt
 added_two [] (x ∷ xs) ys same each = absurd each
@@ -333,7 +334,7 @@ added_two (column ∷ more) [] ys same each = absurd each
 added_two (column ∷ more) (x ∷ xs) [] same each = absurd (omega arith)
 added_two (column ∷ more) (x ∷ xs) (y ∷ ys) same each = (wider column x y each.0, added_two more xs ys (omega arith) each.1)
 
--- where room is enough for what all columns need, each has two
+-- if there is enough room for the needs of all columns, each column has two terminal columns
 pub dynamic_has_two : (room : ℕ) (columns : List ColumnNeeds) (full : Bool) (widths : List ℕ) → AllByRecursion KeepsTwo columns → sum_by (λ (column : ColumnNeeds). column.padding) columns + sum_by needed_in_all columns ≤ room
     → IsDynamicLayout room columns full widths → AllZip HasTwo columns widths
 dynamic_has_two room columns full widths keeps enough (steps, arranged) =

@@ -1,4 +1,5 @@
--- In a width with room each column of a table of csvtable gets two terminal columns, or its content, or is as wide as its longest line at some width.
+-- In a width with room, each column of a table of csvtable gets two terminal columns, its content, or the width of its
+-- longest line at some width.
 use Rattle.std.proofs.Common.{◌≡◌, ◌<◌, ◌≤◌, ◌==◌, ◌&&◌, ◌||◌, ℕ, zero, suc, ◌+◌, ◌-◌, ◌*◌, Bool, true, false, not, List, [], ◌∷◌, Option, Some, None, length, map, max, min, nat_le, nat_lt, slice_get, slice_index, sum_by, unwrap_or, refl, sym, ap, ◌∙◌, subst, arith, ⊎_elim, inl, inr}
 use Rattle.std.specs.List.{AllByRecursion, AllZip, enumerate_from, range_with_len}
 use Rattle.std.specs.Prelude.{◌⊎◌, if◌then◌else◌}
@@ -37,13 +38,13 @@ use Rattle.csv_promises.proofs.TwoColumnLemmas.{HasTwo, KeepsTwo, dynamic_has_tw
 
 -- ---- what columns need
 
--- a column with paddings of two keeps two, and needs no more than this content
+-- a column with two paddings keeps two terminal columns, and needs at most this content width
 record IsTwo (column : ColumnNeeds) (content : ℕ) : Type 0 where
   padding : column.padding ≡ 2
   keeps : KeepsTwo column
   most : needed_in_all column ≤ content
 
--- so all of them
+-- the same for all columns
 record AreTwo (columns : List ColumnNeeds) (contents : List ℕ) : Type 0 where
   count : length columns ≡ length contents
   keeps : AllByRecursion KeepsTwo columns
@@ -56,11 +57,11 @@ two-cons column content columns contents own more =
     let all = sum_by-cons (λ (n : ℕ). 2 + n) content contents in
     record { count = ap suc more.count; keeps = (own.keeps, more.keeps); room = omega (arith, paddings, needed, all, own.padding, own.most, more.room) }
 
--- two for each
+-- two terminal columns for each column
 abbrev two_each : ℕ → ℕ
 two_each i = 2
 
--- new columns have paddings of two
+-- new columns have two paddings
 paddings : (column : ColumnValue) → IsNewColumn column → column_padding column ≡ 2
 paddings column new =
     let one : column.padding.0 ≡ 1 = ap (λ (x : ℕ × ℕ). x.0) new.padding in
@@ -69,15 +70,15 @@ paddings column new =
 
 -- ---- columns with a lower boundary
 
--- a boundary that is fixed at once has the content with its paddings
+-- a lower boundary that is fixed at once has room for the content with its paddings
 boundary-fixed : (content padding l width : ℕ) → fixed_by_boundary content padding (Some l) ≡ Some width → (content + padding ≤ l) × (width ≡ without_padding padding l)
 boundary-fixed content padding l width is = grind arith
 
--- one that is taken is above the average
+-- a lower boundary that is taken is greater than the average
 boundary-taken : (b padding l width : ℕ) → lower_of_boundary b padding (Some l) ≡ Some width → (b < l) × (width ≡ without_padding padding l)
 boundary-taken b padding l width is = grind arith
 
--- either takes no more than the boundary, or two
+-- either takes at most the lower boundary, or two terminal columns
 boundary-most : (content padding l two : ℕ) → unwrap_or (fixed_by_boundary content padding (Some l)) (max (without_padding padding l) two) ≤ max (without_padding padding l) two
 boundary-most content padding l two = by_test (nat_le (content + padding) l)
   where
@@ -85,7 +86,7 @@ boundary-most content padding l two = by_test (nat_le (content + padding) l)
     by_test true = omega arith
     by_test false = omega arith
 
--- a column is given nothing beforehand, or at least two, or its content
+-- a column gets nothing beforehand, or at least two terminal columns, or its content
 abbrev GivesTwo : ℕ → ℕ → Type 0
 GivesTwo content kept = (kept ≡ 0) ⊎ (min 2 content ≤ kept)
 
@@ -101,7 +102,7 @@ boundary-room zero = refl
 boundary-room (suc n) = let l = boundary-some (suc n) (omega arith) in omega (arith, l)
 
 module _ (table : TableValue) where
-  -- a new column that is given so much
+  -- a new column that gets this width beforehand
   given_two : (kept needed i : ℕ) (column : ColumnValue) → GivesTwo (column_content_width table i) kept → max (max 1 kept) (min 2 (column_content_width table i)) ≤ needed → IsNewColumn column
       → IsTwo (needs_of table (i, record column { constraint = Some (lower_bound kept) })) needed
   given_two kept needed i column gives within new =
@@ -139,7 +140,7 @@ module _ (table : TableValue) where
   given_all kept needed gives within [] n new = record { count = refl; keeps = tt; room = omega arith }
   given_all kept needed gives within (column ∷ columns) n new = two-cons _ _ _ _ (given_two (kept n) (needed n) n column (gives n) (within n) new.0) (given_all kept needed gives within columns (n + 1) new.1)
 
-  -- one without a constraint
+  -- a column without a constraint
   plain_two : (needed i : ℕ) (column : ColumnValue) → max 1 (min 2 (column_content_width table i)) ≤ needed → IsNewColumn column → IsTwo (needs_of table (i, column)) needed
   plain_two needed i column within new =
       record {
@@ -169,7 +170,7 @@ module _ (table : TableValue) where
   plain_all [] n new = record { count = refl; keeps = tt; room = omega arith }
   plain_all (column ∷ columns) n new = two-cons _ _ _ _ (plain_two 2 n column (omega arith) new.0) (plain_all columns (n + 1) new.1)
 
-  -- one with a width of its own
+  -- a column with its own width
   second_two : (field : ℕ) (column : ColumnValue) → 2 ≤ field → IsNewColumn column → IsTwo (needs_of table (1, with_content field column)) (max 1 field)
   second_two field column some new =
       record {
@@ -188,7 +189,7 @@ module _ (table : TableValue) where
 
 -- ---- tables
 
--- so has each column
+-- each column has two terminal columns
 abbrev EachHasTwo : TableValue → List ℕ → Type 0
 EachHasTwo table widths = (i : ℕ) (column : ColumnValue) → slice_get table.columns i ≡ Some column → HasTwo (needs_of table (i, column)) (slice_index widths i)
 
@@ -203,7 +204,7 @@ at_place R f g n (c ∷ cs) (suc i) column each is =
     let place : n + 1 + i ≡ n + suc i = omega arith in
     subst (λ (j : ℕ). R (f (j, column)) (g (j, column))) place (at_place R f g (n + 1) cs i column each.1 is)
 
--- where the columns of a table need no more than these contents, and these fit the width
+-- the columns of a table need at most these contents, and these fit the width
 table_two : (table : TableValue) (w : ℕ) (widths contents : List ℕ) → shown_columns table ≡ enumerate_from 0 table.columns → width_kept table.arrangement (Some w) ≡ Some w → table_width table ≡ Some w
     → AreTwo (map (needs_of table) (enumerate_from 0 table.columns)) contents → framed_width table.style contents ≤ w → IsArranged table widths → EachHasTwo table widths
 table_two table w widths contents all kept known two fits arranged i column is =
@@ -219,7 +220,7 @@ table_two table w widths contents all kept known two fits arranged i column is =
 
 -- ---- borders
 
--- borders at both sides, and one between each two columns
+-- borders on both sides, and one between each two columns
 borders : (style : TableStyle) (n : ℕ) → border_count style n ≤ 2 + (n - 1)
 borders style n = by_tests (draws_left_border style) (draws_right_border style) (draws_vertical_lines style)
   where
@@ -233,12 +234,12 @@ borders style n = by_tests (draws_left_border style) (draws_right_border style) 
     by_tests false false true = omega arith
     by_tests false false false = omega arith
 
--- columns of two with their paddings
+-- two terminal columns for each column, with its paddings
 twos : (a n : ℕ) → sum_by (λ content. 2 + content) (map two_each (range_with_len a n)) ≡ 4 * n
 twos a zero = refl
 twos a (suc n) = omega (arith, twos (a + 1) n, sum_by-cons (λ (content : ℕ). 2 + content) 2 (map two_each (range_with_len (a + 1) n)))
 
--- and with borders
+-- the same with borders
 twos-framed : (style : TableStyle) (a n : ℕ) → framed_width style (map two_each (range_with_len a n)) ≤ 2 + (n - 1) + 4 * n
 twos-framed style a n =
     let count : border_count style (length (map two_each (range_with_len a n))) ≡ border_count style n = ap (border_count style) (length-map-range_with_len two_each a n) in
@@ -250,7 +251,7 @@ inside (c ∷ cs) i column is = omega arith
 
 -- ---- the table of rows
 
--- a wide word is of two at least
+-- a wide word takes at least two terminal columns
 wide_word-two : (table : TableValue) (o : Option CellValue) → (wide_word table o ≡ 0) ⊎ (2 ≤ wide_word table o)
 wide_word-two table None = inl refl
 wide_word-two table (Some name) = by_test width (nat_lt 8 width) refl
@@ -262,7 +263,7 @@ wide_word-two table (Some name) = by_test width (nat_lt 8 width) refl
     by_test n true test = let above = ltb-true 8 n test in inr (omega (arith, above))
     by_test n false test = inl refl
 
--- what a column keeps, and so what it is given, is nothing, or two at least, or its content
+-- the width that a column gets beforehand is 0, or at least two terminal columns, or its content
 gives_two : (level : ℕ) (whole : Wanted) (table : TableValue) (i : ℕ) → GivesTwo (column_content_width table i) (reserved_width level whole table i)
 gives_two level whole table i =
     by_tests (nat_le content 8) (unwrap_or (slice_get whole.nowrap i) false) (unwrap_or (slice_get whole.nowrap i) false || nat_lt level (min_width whole table i))
@@ -287,20 +288,20 @@ gives_two level whole table i =
     by_tests narrow nowrap false = inl refl
 
 module _ (base : TableValue) (new : AllByRecursion IsNewColumn base.columns) (w : ℕ) (widths : List ℕ) where
-  -- with what columns are given beforehand, where there is room
+  -- the columns with the widths that they get beforehand, if there is room
   given_has_two : (level : ℕ) (whole : Wanted) → let with : TableValue = with_lower_bounds (by_columns (reserved_width level whole base) base) base in width_kept with.arrangement (Some w) ≡ Some w → table_width with ≡ Some w → least_width whole base ≤ w → IsArranged with widths → EachHasTwo with widths
   given_has_two level whole kept known fits arranged =
       table_two (with_lower_bounds (by_columns (reserved_width level whole base) base) base) w widths (by_columns (width_at_level 8 whole base) base) (all_shown (by_columns (reserved_width level whole base) base) base.columns new) kept known
       (given_all (with_lower_bounds (by_columns (reserved_width level whole base) base) base) (reserved_width level whole base) (width_at_level 8 whole base) (gives_two level whole base) (λ i. omega (arith, given_is_shared level 8 whole base i)) base.columns 0 new) fits arranged
 
-  -- and without constraints, where there is room for five each
+  -- the columns without constraints, if there is room for five terminal columns each
   plain_has_two : width_kept base.arrangement (Some w) ≡ Some w → table_width base ≡ Some w → 1 + 5 * length base.columns ≤ w → IsArranged base widths → EachHasTwo base widths
   plain_has_two kept known fits arranged i column is =
       table_two base w widths (map two_each (range_with_len 0 (length base.columns))) (all_shown [] base.columns new) kept known (plain_all base base.columns 0 new) (omega (arith, twos-framed base.style 0 (length base.columns), fits, inside base.columns i column is)) arranged i column is
 
 -- ---- the table of expanded records
 
--- with a width for the fields
+-- the columns of expanded records, with a width for the fields
 second_has_two : (base : TableValue) (a b : ColumnValue) (new : AllByRecursion IsNewColumn (a ∷ b ∷ [])) (w field : ℕ) (widths : List ℕ)
     → let with : TableValue = with_field_width field (record base { columns = a ∷ b ∷ [] }) in width_kept with.arrangement (Some w) ≡ Some w → table_width with ≡ Some w → 2 ≤ field
     → border_count base.style 2 + (4 + max 1 (min 2 (column_content_width base 0)) + field) ≤ w → IsArranged with widths → EachHasTwo with widths
@@ -327,14 +328,14 @@ module _ (w : ℕ) (look : Look) (content : SelectedValue) (wide : look.width �
       looks : table ≡ record (empty_table (separated has look)) { columns = table.columns; header = table.header; rows = table.rows }
       looks = drawn-is (separated has look) Any content table (subst (IsDrawn (separated has look) Any content) (sym is) (any_drawn look content expanded has))
 
-  -- whether lines between rows are drawn or not, columns are new before they are given anything
+  -- columns are new before they get widths, with lines between rows or without
   new_columns : (expanded : Bool) → AllByRecursion IsNewColumn (separated_table has (plain_table expanded (is_aligned_in look content) look content)).columns
   new_columns expanded =
       subst (λ (t : TableValue). AllByRecursion IsNewColumn t.columns) (restyled look content expanded (is_aligned_in look content) has)
       (recursion_from_All IsNewColumn _ (any_built expanded (is_aligned_in look content) (separated has look) content).columns)
 
   module _ (table : TableValue) (widths : List ℕ) (arranged : IsArranged table widths) where
-    -- the table of rows, if a width has room
+    -- the table of rows, if the width has room
     rows_two : table ≡ separated_table has (output_table false look content)
         → (has_room (Some w) (wanted_in look content) (rows_table look (is_aligned_in look content) content) ≡ true) ⊎ (1 + 5 * length table.columns ≤ w) → EachHasTwo table widths
     rows_two made room = by_test (has_room (Some w) wanted rows) refl
@@ -450,11 +451,13 @@ module _ (w : ℕ) (look : Look) (content : SelectedValue) (wide : look.width �
 
 -- ---- what is promised
 
--- a column of a table has two terminal columns, or its content, or at least its longest line at some width, of which three terminal columns stay free
+-- a column of a table has two terminal columns, its content, or at least its longest line at some width, which leaves
+-- three terminal columns free
 abbrev pub HasTwoAt : TableValue → ℕ → ℕ → Type 0
 HasTwoAt table i width = (min 2 (column_content_width table i) ≤ width) ⊎ ((b : ℕ) × (longest_line table i None b + 3 ≤ b) × (max 1 (longest_line table i None b) ≤ width))
 
--- a width has room for a table: for five terminal columns of each column beside one border, or, for one of rows, for what its columns need
+-- the width has room for a table: for five terminal columns of each column besides one border, or, for a table of rows,
+-- for the needs of its columns
 abbrev pub HasRoomFor : ℕ → Look → SelectedValue → TableValue → Type 0
 HasRoomFor w look content table =
     (1 + 5 * length table.columns ≤ w) ⊎ ((is_expanded_for look content ≡ false) × (has_room (Some w) (wanted_in look content) (rows_table look (is_aligned_in look content) content) ≡ true))
@@ -465,13 +468,13 @@ column_there [] i below = absurd (omega (arith, below))
 column_there (c ∷ cs) zero below = (c, refl)
 column_there (c ∷ cs) (suc i) below = column_there cs i (omega (arith, below))
 
--- which has no delimiter
+-- the column has no delimiter
 no_delimiter_at : (columns : List ColumnValue) (i : ℕ) (column : ColumnValue) → AllByRecursion IsPaddedColumn columns → slice_get columns i ≡ Some column → column.delimiter ≡ None
 no_delimiter_at [] i column each is = absurd (cc is)
 no_delimiter_at (c ∷ cs) zero column each is = let own : c ≡ column = cc is in ap (λ (d : ColumnValue). d.delimiter) (sym own) ∙ each.0.no_delimiter
 no_delimiter_at (c ∷ cs) (suc i) column each is = no_delimiter_at cs i column each.1 is
 
--- if a width has room for the table that is drawn of some records, each column has two
+-- if the width has room for the table that is drawn of some records, each column has two terminal columns
 pub two_or_content : (w : ℕ) (look : Look) (content : SelectedValue) → look.width ≡ Some w → (table : TableValue) (widths : List ℕ) → IsDrawnTable look content table → HasRoomFor w look content table → IsArranged table widths
     → (i : ℕ) → i < length table.columns → HasTwoAt table i (slice_index widths i)
 two_or_content w look content wide table widths (has, made) room arranged i below =
@@ -497,7 +500,8 @@ two_or_content w look content wide table widths (has, made) room arranged i belo
 
 -- ---- by options
 
--- a width has room for the drawn table by options alone, if no table of rows has more than all columns, and none of expanded records more than two
+-- The width has room for the drawn table by options alone. A table of rows has at most all columns, and one of expanded
+-- records at most two.
 pub room_by_expansion : (w all : ℕ) (look : Look) (content : SelectedValue) (table : TableValue) → look.is_markdown ≡ false → look.width ≡ Some w → (is_expanded_for look content ≡ false → length table.columns ≤ all) → (is_expanded_for look content ≡ true → length table.columns ≤ 2) → IsDrawnTable look content table
     → 1 + 5 * columns_by look.expansion (not (length content.rows == 0)) all ≤ w → HasRoomFor w look content table
 room_by_expansion w all look content table plain wide most two is_drawn five =

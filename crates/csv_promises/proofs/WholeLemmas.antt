@@ -36,17 +36,17 @@ use Rattle.csv_promises.proofs.FieldLemmas.{own_sides, positions_of}
 use Rattle.csv_promises.proofs.ShownTableLemmas.{has_rows_of, no_custom_styling}
 use Rattle.csv_promises.specs.Fields.{KeepsNumbers, widest_whole, column_in, has_numbers, mark_for, side_for, whole_for, whole_pairs}
 
--- the widest text of a column is its content
+-- the width of a column's widest text is its content width, but at least 1
 pub widest-content : (table : TableValue) → table.custom_styling ≡ false → (i : ℕ) → widest table i ≡ max 1 (column_content_width table i)
 widest-content table plain i =
     ap (λ (rows : List RowValue). max 1 (greatest (map cell_content_width (filter_map (λ (row : RowValue). slice_get row.cells i) rows)))) (sym (measured_plain table plain))
 
--- the content that is whole in a whole column: without the header if a width is kept
+-- the content of a column that is kept whole: without the header if there is a width
 abbrev pub content_whole : Option ℕ → TableValue → ℕ → ℕ
 content_whole None table i = column_content_width table i
 content_whole (Some w) table i = fields_need true table i
 
--- as wide is the widest text that is whole in all rows
+-- the widest text that is kept whole in all rows is at most as wide
 pub whole-widest : (o : Option ℕ) (table : TableValue) → table.custom_styling ≡ false → (i w : ℕ) → 1 ≤ w → content_whole o table i ≤ w → widest_whole o (with_rows_alone 0 (length table.rows) table) i ≤ w
 whole-widest None table plain i w some kept =
     let same = widest-content table plain i in
@@ -58,11 +58,11 @@ whole-widest (Some v) table plain i w some kept =
 -- ---- parts of a table
 
 module _ (i : ℕ) where
-  -- the widest text of a column of rows
+  -- the width of the widest text of a column of rows
   abbrev content : List RowValue → ℕ
   content rows = greatest (map cell_content_width (filter_map (λ (row : RowValue). slice_get row.cells i) rows))
 
-  -- one more row above two lists of rows, of which one has no wider text
+  -- one more row above two lists of rows, of which the first has no wider text
   one-wider : (row : RowValue) (some all : List RowValue) → content some ≤ content all → content (row ∷ some) ≤ content (row ∷ all)
   one-wider row some all within = by_cell (slice_get row.cells i)
     where
@@ -106,7 +106,7 @@ module _ (i : ℕ) where
 
 -- ---- tables without a width
 
--- what holds at the place of each element holds at each index
+-- a property of each element's place is one of each index
 at_place : {A : Type 0} (P : ℕ → Type 0) (n : ℕ) (xs : List A) → All (λ (p : ℕ × A). P p.0) (enumerate_from n xs) → (i : ℕ) → i < length xs → P (n + i)
 at_place P n [] each i below = absurd (omega (arith, below))
 at_place {A} P n (x ∷ xs) each zero below = let same : n ≡ n + 0 = omega arith in subst P same (All-head (λ (p : ℕ × A). P p.0) (n, x) (enumerate_from (n + 1) xs) each)
@@ -117,7 +117,7 @@ module _ (look : Look) (content : SelectedValue) (is_expanded has : Bool) (width
   abbrev made : TableValue
   made = separated_table has (output_table is_expanded look content)
 
-  -- without a width a column is as wide as its content
+  -- without a width, a column is as wide as its content
   pub as_wide : look.width ≡ None → IsArranged made widths → (i : ℕ) → i < length made.columns → slice_index widths i ≡ max 1 (column_content_width made i)
   as_wide none arranged i below =
       let place : 0 + i ≡ i = omega arith in
@@ -148,7 +148,7 @@ module _ (look : Look) (content : SelectedValue) (is_expanded has : Bool) (width
           let p = slice_index_or (shown_columns made) j other in
           All-same_map (λ (q : ℕ × ColumnValue). slice_index widths q.0) (disabled_width made) (shown_columns made) all j other within ∙ width_by_content made p.0 p.1 (free j other within)
 
--- so are those of expanded records, and parts of them
+-- so are the columns of expanded records, and those of their parts
 pub pairs_kept_whole : (look : Look) (content : SelectedValue) (has : Bool) (widths : List ℕ) (first n : ℕ) → look.has_sequences ≡ false → IsArranged (made look content true has widths) widths → (i : ℕ) → i < length (made look content true has widths).columns → slice_get (whole_pairs look.width) i ≡ Some true
     → widest_whole look.width (with_rows_alone first n (made look content true has widths)) i ≤ max 1 (slice_index widths i)
 pairs_kept_whole look content has widths first n unkept arranged i below = by_width look.width refl
@@ -165,7 +165,7 @@ pairs_kept_whole look content has widths first n unkept arranged i below = by_wi
 
 -- ---- columns of numbers and dates
 
--- fields are seen as they are
+-- fields are visible unchanged
 seen_fields : (fields : List Text) → seen false fields ≡ fields
 seen_fields [] = refl
 seen_fields (field ∷ fields) = ap (λ (more : List Text). field ∷ more) (seen_fields fields)
@@ -174,7 +174,7 @@ seen_rows : (rows : List (List Text)) → map (seen false) rows ≡ rows
 seen_rows [] = refl
 seen_rows (fields ∷ rows) = (λ i. seen_fields fields i ∷ seen_rows rows i)
 
--- the drawn columns of them are those of the fields
+-- the drawn columns have numbers and dates alone if their fields are
 pub nowrap-shown : (own : ColumnsValue) (keeps : Bool) → keeps ≡ false → (rows : List (List Text)) → map (λ (column : ColumnPlan). column.is_nowrap) (drawn_columns own (map (seen keeps) rows)) ≡ map (has_numbers rows) (positions_of (drawn_columns own (map (seen keeps) rows)))
 nowrap-shown own keeps none rows =
     subst (λ (seen_as : List (List Text)). map (λ (column : ColumnPlan). column.is_nowrap) (drawn_columns own seen_as) ≡ map (has_numbers rows) (positions_of (drawn_columns own seen_as)))
@@ -184,7 +184,7 @@ nowrap-shown own keeps none rows =
     all [] = refl
     all (p ∷ ps) = ap (λ (more : List Bool). has_numbers rows p ∷ more) (all ps)
 
--- and so are their sides
+-- the alignments of the drawn columns are those of their fields
 pub sides-shown : (own : ColumnsValue) (keeps : Bool) → keeps ≡ false → (rows : List (List Text)) → own_sides (drawn_columns own (map (seen keeps) rows)) ≡ map (side_for own rows) own.drawn
 sides-shown own keeps none rows =
     subst (λ (seen_as : List (List Text)). own_sides (drawn_columns own seen_as) ≡ map (side_for own rows) own.drawn) (sym (ap (λ (k : Bool). map (seen k) rows) none ∙ seen_rows rows)) (all own.drawn)
@@ -193,7 +193,7 @@ sides-shown own keeps none rows =
     all [] = refl
     all (p ∷ ps) = ap (λ (more : List CellAlignment). side_for own rows p ∷ more) (all ps)
 
--- and their marks
+-- the marks of the drawn columns are those of their fields
 pub marks-shown : (own : ColumnsValue) (keeps : Bool) → keeps ≡ false → (rows : List (List Text)) (are : Bool) (i : ℕ) (d : ColumnPlan) → slice_get (drawn_columns own (map (seen keeps) rows)) i ≡ Some d → (if are then d.points else None) ≡ mark_for are own rows d.position
 marks-shown own keeps none rows are i d found =
     by_columns own.drawn i (sym (ap (λ (seen_as : List (List Text)). slice_get (drawn_columns own seen_as) i) (ap (λ (k : Bool). map (seen k) rows) none ∙ seen_rows rows)) ∙ found)
@@ -207,7 +207,7 @@ marks-shown own keeps none rows are i d found =
     by_columns (p ∷ ps) zero own_is = by_asked are p (cc own_is)
     by_columns (p ∷ ps) (suc i) own_is = by_columns ps i own_is
 
--- what is so of the columns of a table of rows
+-- the columns of a table of rows
 pub record AreColumns (look : Look) (content : SelectedValue) : Type 0 where
   pub table : look.is_markdown ≡ false
   pub kind : is_table_expanded look content ≡ false
@@ -217,7 +217,7 @@ module _ (look : Look) (content : SelectedValue) (are : AreColumns look content)
   abbrev rows_made : TableValue
   rows_made = separated_table has (output_table false look content)
 
-  -- the columns that are asked to be whole are no narrower than their contents
+  -- the columns that must be kept whole are at least as wide as their contents
   pub kept_whole : IsArranged rows_made widths → IfSome look.width (λ w. w ≤ 65535) → (i : ℕ) → i < length rows_made.columns → slice_get (whole_for look.width look.expansion content.is_numbered (positions_of content.columns) content.rows) i ≡ Some true → content_whole look.width rows_made i ≤ max 1 (slice_index widths i)
   kept_whole arranged small i below is_whole = by_width look.width refl small is_whole
     where
@@ -249,7 +249,7 @@ module _ (look : Look) (content : SelectedValue) (are : AreColumns look content)
 
 -- ---- numbers and dates of expanded records
 
--- what holds of each found element holds of what is found of an element
+-- a property of each element that is found is one of each result
 found_in : {X Y : Type 0} (P : Y → Type 0) (f : X → Option Y) (xs : List X) → All P (filter_map f xs) → All (λ (x : X). (y : Y) → f x ≡ Some y → P y) xs
 found_in {X} {Y} P f [] each = All-nil (λ (x : X). (y : Y) → f x ≡ Some y → P y)
 found_in {X} {Y} P f (x ∷ xs) each = by_first (f x) refl each (found_in P f xs)
@@ -261,7 +261,7 @@ found_in {X} {Y} P f (x ∷ xs) each = by_first (f x) refl each (found_in P f xs
     by_first None none own later = All-cons Found x xs (λ y is. absurd (cc (sym none ∙ is))) (later own)
     by_first (Some y) some own later = All-cons Found x xs (λ z is. subst P (cc (sym some ∙ is)) (All-head P y (filter_map f xs) own)) (later (All-tail P y (filter_map f xs) own))
 
--- a line over two columns is no narrower if the first is wider
+-- a line over two columns is at least as wide if the first column is wider
 wider_name : (style : TableStyle) (a b m : ℕ) → a ≤ b → framed_width style (a ∷ m ∷ []) ≤ framed_width style (b ∷ m ∷ [])
 wider_name style a b m within =
     let width = λ (content : ℕ). 2 + content in

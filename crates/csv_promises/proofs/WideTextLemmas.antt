@@ -1,4 +1,4 @@
--- Under a width with room, what is written is straight, if characters take at most two terminal columns.
+-- Under a width with room, the output is straight if characters take at most two terminal columns.
 use Rattle.std.proofs.Common.{◌≡◌, ◌≤◌, ◌==◌, ◌&&◌, ℕ, ◌+◌, ◌*◌, Bool, true, false, not, List, [], ◌∷◌, Option, chars, length, nat_le, refl, sym, ap, ap₂, ◌∙◌, subst, arith}
 use Rattle.std.specs.List.{All, list_all, list_any}
 use Rattle.std.specs.Prelude.{encode_utf8, if◌then◌else◌}
@@ -60,7 +60,7 @@ is_no_selector c = not (c == 0xFE0E)
 abbrev is_within : ℕ → ℕ → Bool
 is_within n c = nat_le (measure (encode_utf8 c)) n && not (c == 0xFE01)
 
--- a character takes at most two, and is no selector
+-- a character takes at most two terminal columns, and is neither U+FE01 nor U+FE0E
 abbrev is_usual : ℕ → Bool
 is_usual c = is_within 2 c && is_no_selector c
 
@@ -96,7 +96,7 @@ module _ (look : Look) (unkept : look.has_sequences ≡ false) (none : look.is_m
 
 -- ---- what a layout draws
 
--- if a width has room for two terminal columns in each column, each character of such fields has room in its column
+-- if the width has room for two terminal columns in each column, each character of such fields has room in its column
 module _ (known : Option ℕ) (layout : Layout) (records : List (List Text)) (unkept : layout.look.has_sequences ≡ false) (none : layout.look.is_markdown ≡ false) (texts : All AllText records) where
   pub two_fit : EachField IsOfTwoColumns records → HasRoomForTwo layout.look.width (framed_columns_in layout records) → CharactersFitEachWidth known layout records
   two_fit each (w, wide, room) = two_fit_each_width w known layout records wide unkept (fields_fit layout.look unkept none records texts each) has_room

@@ -1,4 +1,4 @@
--- What is written for arguments keeps to their width.
+-- The output for arguments keeps to their width.
 use Rattle.std.proofs.Common.{◌⊎◌, inl, inr, ◌≡◌, ◌==◌, ℕ, ◌+◌, false, not, List, [], Option, Some, length, unwrap_or, ap, ap₂, ◌∙◌, subst}
 use Rattle.std.specs.Prelude.{if◌then◌else◌}
 use Rattle.comfy_parts.specs.Text.{Text}

@@ -1,4 +1,5 @@
--- Each character of a text is on one of its wrapped lines or is the delimiter, so it isn't wider than the widest line.
+-- Each character of a text is on one of its wrapped lines or is the delimiter, so it is at most as wide as the widest
+-- line.
 use Rattle.std.proofs.Common.{◌≡◌, ◌≤◌, ℕ, Bool, true, false, not, ◌==◌, nat_le, List, [], ◌∷◌, filter, max, refl, sym, ap, ◌∙◌, append-nil, arith}
 use Rattle.std.specs.Prelude.{if◌then◌else◌, chars, encode_utf8, IsUtf8}
 use Rattle.std.specs.Char.{IsScalar}
@@ -15,7 +16,7 @@ use Rattle.comfy_parts.specs.Laws.{characters_without}
 use Rattle.comfy_parts.specs.Wrapping.{lines_of_text}
 use Rattle.csv_promises.proofs.AtLeastLemmas.{leb-from, text_wide_as_each_or_one}
 
--- what passes at each element that isn't d, and at d, passes at each
+-- a test that each element except d passes, and d too, is passed by all
 all-but : (p : ℕ → Bool) (d : ℕ) → p d ≡ true → (cs : List ℕ) → list_all p (filter (λ c. not (c == d)) cs) ≡ true → list_all p cs ≡ true
 all-but p d own [] all = refl
 all-but p d own (c ∷ cs) all = go (c == d) refl (all-but p d own cs) all
@@ -27,7 +28,7 @@ all-but p d own (c ∷ cs) all = go (c == d) refl (all-but p d own cs) all
         let parts = and_parts (p c) (list_all p (filter (λ c. not (c == d)) cs)) rest in
         and_from (p c) (list_all p cs) parts.0 (others parts.1)
 
--- what passes at each element passes at those that aren't d
+-- a test that all elements pass is passed by those that aren't d
 all-filter : (p : ℕ → Bool) (d : ℕ) (cs : List ℕ) → list_all p cs ≡ true → list_all p (filter (λ c. not (c == d)) cs) ≡ true
 all-filter p d [] all = refl
 all-filter p d (c ∷ cs) all = let parts = and_parts (p c) (list_all p cs) all in go (c == d) parts.0 (all-filter p d cs parts.1)
@@ -46,18 +47,18 @@ all-weaker p q each (c ∷ cs) all =
 abbrev Passes : (ℕ → Bool) → Text → Type 0
 Passes p text = list_all p (chars text) ≡ true
 
--- it is another character than U+FE0E
+-- a character other than U+FE0E
 abbrev is_no_selector : ℕ → Bool
 is_no_selector c = not (c == 0xFE0E)
 
--- it measures at most n columns by itself
+-- a character takes at most n terminal columns alone
 abbrev fits : ℕ → ℕ → Bool
 fits n c = nat_le (measure (encode_utf8 c)) n
 
 abbrev Fits : ℕ → Text → Type 0
 Fits n text = measure text ≤ n
 
--- what passes at each character of each line passes at each of the lines one after another
+-- a test that each character of each line passes is passed by the concatenated lines
 all-concat : (p : ℕ → Bool) (lines : List Text) → All IsUtf8 lines → All (Passes p) lines → Passes p (concat lines)
 all-concat p [] utf8 each = ap (list_all p) chars-nil
 all-concat p (line ∷ lines) utf8 each =
@@ -75,7 +76,7 @@ characters-fit n line some utf8 shown bound =
     (λ c h. let le = leb-true (measure (encode_utf8 c)) (max 1 (measure line)) h in leb-from (measure (encode_utf8 c)) n (omega (arith, le, bound, some)))
     (chars line) (text_wide_as_each_or_one line utf8 shown)
 
--- and those of each line
+-- so do those of each line
 lines-fit : (n : ℕ) → 1 ≤ n → (lines : List Text) → All IsUtf8 lines → All (Passes is_no_selector) lines → All (Fits n) lines → All (Passes (fits n)) lines
 lines-fit n some [] utf8 shown fit = All-nil (Passes (fits n))
 lines-fit n some (line ∷ lines) utf8 shown fit =
@@ -83,7 +84,7 @@ lines-fit n some (line ∷ lines) utf8 shown fit =
     (characters-fit n line some (All-head IsUtf8 line lines utf8) (All-head (Passes is_no_selector) line lines shown) (All-head (Fits n) line lines fit))
     (lines-fit n some lines (All-tail IsUtf8 line lines utf8) (All-tail (Passes is_no_selector) line lines shown) (All-tail (Fits n) line lines fit))
 
--- if each line of a text measures at most n columns, so does each of its characters
+-- if each line of a text takes at most n terminal columns, so does each of its characters
 pub lines_as_wide_as_each : (w d : ℕ) (text : Text) → IsUtf8 text → IsScalar d → measure (encode_utf8 d) ≤ 1 → list_all (λ c. not (c == 0xFE0E)) (chars text) ≡ true
     → (n : ℕ) → All (λ line. measure line ≤ n) (lines_of_text w d text) → 1 ≤ n → list_all (λ c. nat_le (measure (encode_utf8 c)) n) (chars text) ≡ true
 lines_as_wide_as_each w d text utf8 scalar one shown n fit some =

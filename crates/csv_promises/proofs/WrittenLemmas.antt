@@ -1,4 +1,4 @@
--- What is written for arguments is drawn of all records of an input, or of the first ones.
+-- The output for arguments is drawn of all records of an input, or of the first ones.
 use Rattle.std.proofs.Common.{ap, ap₂, length, ◌<◌, ◌≡◌, inl, ℕ, Bool, List, [], ◌∷◌, map, Option, Some, None, unwrap_or, append-nil, refl, sym, ◌∙◌, subst, inr, ◌++◌}
 use Rattle.std.specs.List.{All}
 use Rattle.std.proofs.lemmas.List.Elements.{All-cons, All-head, All-nil, All-tail}
@@ -23,7 +23,7 @@ use Rattle.csv_promises.specs.Counted.{EachDrawnLine, IsCount}
 use Rattle.csv_promises.specs.Straight.{EachField}
 use Rattle.csv_promises.specs.Written.{IsWritten}
 
--- what holds of all elements holds of the first ones
+-- a property of all elements is one of the first ones
 All-front : {A : Type 0} (P : A → Type 0) (xs ys : List A) → All P (xs ++ ys) → All P xs
 All-front P [] ys all = All-nil P
 All-front P (x ∷ xs) ys all = All-cons P x xs (All-head P x (xs ++ ys) all) (All-front P xs ys (All-tail P x (xs ++ ys) all))
@@ -38,7 +38,7 @@ module _ (is_markdown : Bool) (arguments : List Text) (context : OutputContext) 
   texts : All AllText records
   texts = is.are.are_records.are_records.are_text
 
-  -- the output is drawn of these, as many as are drawn: of all records, or of the first ones
+  -- the output is drawn of these records, which are all records, or at least as many as are drawn
   pub record IsDrawnBy (known : Option ℕ) (rs : List (List Text)) : Type 0 where
     pub text : All AllText rs
     pub made : RendersChosen known options rs output
@@ -48,7 +48,7 @@ module _ (is_markdown : Bool) (arguments : List Text) (context : OutputContext) 
     pub rows : drawn_rows options.selection rs ≡ drawn_rows options.selection records
     pub counted : IsCount options records known
 
-  -- it is nothing, if there are no records, or so drawn
+  -- the output is empty without records, and otherwise drawn in this way
   pub by_extent : (Good : Type 0) → (records ≡ [] → output ≡ [] → Good) → ((known : Option ℕ) (rs : List (List Text)) → IsDrawnBy known rs → Good) → Good
   by_extent Good empty law = by_made is.made
     where
@@ -78,17 +78,17 @@ module _ (is_markdown : Bool) (arguments : List Text) (context : OutputContext) 
             counted = (enough.has_limit.uncounted, subst (λ (l : Option ℕ). length (limited l (records_below h records)) < length (records_below h records)) (sym enough.has_limit.is) first.fewer);
           })
 
-  -- of no records no line is drawn
+  -- without records no line is drawn
   pub nothing : (P : Text → Type 0) → records ≡ [] → output ≡ [] → EachDrawnLine P options records output
   nothing P none empty =
       subst (λ (rs : List (List Text)). EachDrawnLine P options rs output) (sym none) (subst (EachDrawnLine P options []) (sym empty) (nothing_written P options))
 
   module _ (known : Option ℕ) (rs : List (List Text)) (by : IsDrawnBy known rs) where
-    -- what holds of all fields holds of those that are drawn
+    -- a property of all fields is one of those that are drawn
     pub own_fields : (P : Text → Type 0) → EachField P records → EachField P rs
     own_fields P each = All-front (All P) rs by.more (subst (All (All P)) by.front each)
 
-    -- the same columns are chosen of those that are drawn and of all records, and the same is drawn of them
+    -- the same columns are chosen of the records that are read and of all records, and the same is drawn of them
     pub same_columns : columns_for options records ≡ columns_for options rs
     same_columns =
         ap₂ (λ (names : Option (List Text)) (rows : List (List Text)). columns_by options.columns (unwrap_or names []) (record { all = count_of (unwrap_or names []) rows; filled = filled_count (unwrap_or names []) rows })) (sym by.names) (sym by.rows)

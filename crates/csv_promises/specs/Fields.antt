@@ -1,4 +1,4 @@
--- Where the fields of records are in what is written of them.
+-- The places of fields in the output for records.
 -- Source: this library's own.
 use Rattle.std.specs.Prelude.{◌≡◌, ◌<◌, ◌≤◌, ◌==◌, ℕ, ◌+◌, Bool, true, false, List, [], ◌∷◌, ◌++◌, Option, None, Some, String, All, IfSome, MatchOption, decimal, drop, filter, flat_map, length, map, nat_lt, option_map, option_to_list, string_bytes, unwrap_or, IsUtf8, chars, if◌then◌else◌, is_some, ◌⊎◌, slice_get}
 use Rattle.std.specs.List.{AllZip, enumerate_from, list_all, list_any, range_with_len}
@@ -32,38 +32,39 @@ use Rattle.promises.specs.Headline.{IsFramedTable, IsUncoloured, widest}
 
 -- ---- rows of fields
 
--- a cell at a side holds a field: line by line, or an empty line if all is blank. It breaks at
--- spaces
+-- a cell with this alignment holds a field: line by line, or an empty line if the field is blank.
+-- It breaks at spaces
 pub record HoldsField (side : CellAlignment) (field : Text) (cell : CellValue) : Type 0 where
   pub at_side : unwrap_or cell.alignment Left ≡ side
   pub texts : cell.text_lines ≡ (plain_cell (unless_blank field)).text_lines
   pub no_delimiter : cell.delimiter ≡ None
 
--- the side of the column at a place: left past the last one
+-- the alignment of the column at a place, which is left after the last column
 abbrev pub side_at : List CellAlignment → ℕ → CellAlignment
 side_at sides i = unwrap_or (slice_get sides i) Left
 
--- each cell of a row holds the field at its place, at its column's side; if a cell is missing, the
--- field is empty. No height cuts the row
+-- each cell of a row holds the field at its place, with its column's alignment. If a cell is
+-- missing, the field is empty. No height cuts the row
 pub record HoldsFields (sides : List CellAlignment) (fields : List Text) (row : RowValue)
     : Type 0 where
   pub each : (i : ℕ) → MatchOption (slice_get row.cells i) (field_or_blank fields i ≡ [])
       (HoldsField (side_at sides i) (field_or_blank fields i))
   pub uncut : row.max_height ≡ None
 
--- a column with a space at each side, which breaks at spaces and has no side of its own
+-- a column with a space on each side, which breaks at spaces and has no alignment of its own
 pub record IsFieldColumn (column : ColumnValue) : Type 0 where
   pub padding : column.padding ≡ (1, 1)
   pub no_delimiter : column.delimiter ≡ None
   pub no_alignment : column.alignment ≡ None
 
--- the cells of a row after that of its name, or all
+-- the cells of a row after the name, or all cells
 abbrev pub cells_after_name : Bool → RowValue → List CellValue
 cells_after_name true row = drop 1 row.cells
 cells_after_name false row = row.cells
 
--- a table in this look, of rows of fields, of which the first is the header, or none, or the first
--- field of each is a name; its columns are at these sides. Lines between rows may be left out
+-- A table in this look holds rows of fields, with these alignments of its columns. The first row is
+-- the header, or there is none, or the first field of each row is a name. Lines between rows may be
+-- left out.
 pub record IsTableOf (look : Look) (has_header has_names : Bool) (sides : List CellAlignment)
     (rows : List (List Text)) (table : TableValue) : Type 0 where
   pub style : (table.style ≡ look.style) ⊎ (table.style ≡ condensed_style look.style)
@@ -71,38 +72,38 @@ pub record IsTableOf (look : Look) (has_header has_names : Bool) (sides : List C
   pub hold : AllZip (HoldsFields sides) rows (header_and_rows table)
   pub columns : All IsFieldColumn table.columns
   pub no_delimiter : table.delimiter ≡ None
-  -- each cell has a column, there are as many columns as fields, and all are shown
+  -- each cell has a column, there are as many columns as fields, and all columns are shown
   pub has_columns :
       All (λ (row : RowValue). length row.cells ≤ length table.columns) (header_and_rows table)
   pub as_many : All (λ (fields : List Text). length table.columns ≡ length fields) rows
   pub shown : shown_columns table ≡ enumerate_from 0 table.columns
-  -- no cell has a colour or an attribute but those of the header, and those of names
+  -- only the header and names may have colours or attributes
   pub uncoloured :
       All (λ (row : RowValue). All IsUncoloured (cells_after_name has_names row)) table.rows
   pub no_sequences : table.custom_styling ≡ false
 
--- a width has room for the number or date of a row's second cell, line by line, beside borders,
--- paddings and four terminal columns for its name: so each line has room in its column
+-- if the width has room for a line of a row's second cell that is a number or a date, its column
+-- has room for it. Borders, paddings and four terminal columns for the name need room too
 abbrev pub KeepsNumbers : Look → ℕ → ℕ → RowValue → Type 0
 KeepsNumbers look w width row =
     (cell : CellValue) → slice_get row.cells 1 ≡ Some cell
     → All (λ line. is_nowrap line ≡ true
     → framed_width look.style (4 ∷ measure line ∷ []) ≤ w → measure line ≤ width) cell.text_lines
 
--- the widest of the texts that are whole in a whole column, at least 1: that of the header is one
--- of them if no width is kept
+-- the width of the widest text in a column that is kept whole, at least 1; without a width, the
+-- header is one of these texts
 abbrev pub widest_whole : Option ℕ → TableValue → ℕ → ℕ
 widest_whole None table i = widest table i
 widest_whole (Some width) table i = widest (record table { header = None }) i
 
--- each whole column is at least as wide, so that each of these texts is on one line
+-- each column that is kept whole is at least this wide, so that each of these texts is on one line
 abbrev pub KeepsWhole : Look → List Bool → TableValue → (ℕ → ℕ) → Type 0
 KeepsWhole look whole table width =
     IfSome look.width (λ w. w ≤ 65535) → (i : ℕ) → i < length table.columns
     → slice_get whole i ≡ Some true → widest_whole look.width table i ≤ width i
 
--- a text is the lines of such a table, but for bold in the pieces around texts of its header and
--- its names, if a bold header is asked for. A list says which of its columns are whole
+-- A text has the lines of such a table. If a bold header is requested, bold surrounds pieces with
+-- texts of the header and the names. `whole` lists the columns that are kept whole.
 pub record IsDrawingOf (look : Look) (has_header has_names : Bool) (sides : List CellAlignment)
     (whole : List Bool) (rows : List (List Text)) (text : Text) : Type 0 where
   pub lines : List Text
@@ -113,21 +114,21 @@ pub record IsDrawingOf (look : Look) (has_header has_names : Bool) (sides : List
   pub in_bold : AllZip IsInBold framed.plain lines
   pub unstyled : look.has_bold_header ≡ false → lines ≡ framed.plain
   pub keeps_whole : KeepsWhole look whole table framed.is_plain.width
-  -- in an expanded record a number or date that has room is on one line
+  -- a number or date of an expanded record that has room is on one line
   pub keeps_numbers : has_names ≡ true → (w : ℕ) → w ≤ 65535 → look.width ≡ Some w
       → All (KeepsNumbers look w (framed.is_plain.width 1)) table.rows
 
--- a text shows rows of fields in a table, in which these columns are whole; or nothing, if there
--- are none
+-- a text shows rows of fields in a table, in which these columns are kept whole; without rows it is
+-- empty
 abbrev pub ShowsRows :
     Look → Bool → Bool → List CellAlignment → List Bool → List (List Text) → Text → Type 0
 ShowsRows look has_header has_names sides whole rows text =
     ((rows ≡ []) × (text ≡ [])) ⊎ IsDrawingOf look has_header has_names sides whole rows text
 
--- ---- sides and decimal marks
+-- ---- alignment and decimal marks
 
--- a column as its fields in rows ask for it: at the right if they are numbers, unless a side is
--- chosen for it, and with their decimal mark if they have one
+-- the column at a position: right-aligned if its fields are numbers, unless an alignment is chosen
+-- for it, and with their decimal mark if they have one
 abbrev pub column_in : ColumnsValue → List (List Text) → ℕ → ColumnPlan
 column_in columns rows position =
     column_at columns (summary_of (column_fields rows position)) position
@@ -135,7 +136,7 @@ column_in columns rows position =
 abbrev pub side_for : ColumnsValue → List (List Text) → ℕ → CellAlignment
 side_for columns rows position = unwrap_or (column_in columns rows position).alignment Left
 
--- the column of record numbers, if there is one, is at the right
+-- the column of record numbers, if there is one, is right-aligned
 abbrev pub sides_after_number : Bool → List CellAlignment → List CellAlignment
 sides_after_number is_numbered sides = if is_numbered then Right ∷ sides else sides
 
@@ -143,7 +144,7 @@ abbrev pub sides_for : Bool → ColumnsValue → List (List Text) → List CellA
 sides_for is_numbered columns rows =
     sides_after_number is_numbered (map (side_for columns rows) columns.drawn)
 
--- the decimal mark of a column, if marks are lined up
+-- the decimal mark of a column, if marks are aligned
 abbrev pub mark_for : Bool → ColumnsValue → List (List Text) → ℕ → Option Points
 mark_for false columns rows position = None
 mark_for true columns rows position = (column_in columns rows position).points
@@ -151,24 +152,24 @@ mark_for true columns rows position = (column_in columns rows position).points
 abbrev pub no_marks : ℕ → Option Points
 no_marks position = None
 
--- they are lined up as it is asked for, but perhaps not under a width
+-- marks are aligned as requested, but perhaps not under a width
 pub record AreLinedUp (look : Look) (are : Bool) : Type 0 where
   pub without_width : look.width ≡ None → are ≡ look.aligns_decimals
   pub unasked : look.aligns_decimals ≡ false → are ≡ false
 
 -- ---- whole columns
 
--- each field that rows have at a position is a number or a date, or says nothing
+-- true if each field at a position is a number, a date or neutral
 abbrev pub has_numbers : List (List Text) → ℕ → Bool
 has_numbers rows position = list_all is_nowrap (column_fields rows position)
 
--- columns at positions are whole if they pass a test; that of record numbers is, if there is one
+-- true for each column that passes a test, and for the column of record numbers
 abbrev pub whole_columns : Bool → List ℕ → (ℕ → Bool) → List Bool
 whole_columns is_numbered positions passes =
     (if is_numbered then true ∷ [] else []) ++ map passes positions
 
--- in a width that is asked for, columns of numbers and dates are whole, and that of record numbers,
--- if records may be expanded instead and there is a row
+-- under a width, columns of numbers and dates are kept whole, and so is that of record numbers, if
+-- records may be expanded instead and there is a row
 abbrev pub whole_within : Expansion → Bool → List ℕ → List (List Text) → List Bool
 whole_within expansion is_numbered positions [] = []
 whole_within Auto is_numbered positions (fields ∷ rows) =
@@ -176,7 +177,7 @@ whole_within Auto is_numbered positions (fields ∷ rows) =
 whole_within Always is_numbered positions (fields ∷ rows) = []
 whole_within Never is_numbered positions (fields ∷ rows) = []
 
--- without a width all columns are
+-- without a width, all columns are kept whole
 abbrev pub whole_for : Option ℕ → Expansion → Bool → List ℕ → List (List Text) → List Bool
 whole_for None expansion is_numbered positions rows =
     whole_columns is_numbered positions (λ position. true)
@@ -190,21 +191,22 @@ whole_pairs (Some width) = []
 
 -- ---- records
 
--- the field of a column, as it is cleaned, and the spaces after it that line up its decimal mark
+-- the field of a column, cleaned, with the spaces that align its decimal mark
 abbrev pub lined_up : Option Points → Text → Text
 lined_up None field = cleaned false field
 lined_up (Some points) field = cleaned false field ++ spaces (spaces_behind points field)
 
--- a record's fields at these positions, with the marks of their columns; missing ones are empty
+-- a record's fields at these positions, with the marks of their columns; missing fields are empty
 abbrev pub fields_at : (ℕ → Option Points) → List ℕ → List Text → List Text
 fields_at marks positions fields =
     map (λ position. lined_up (marks position) (field_or_blank fields position)) positions
 
--- fields after the number of their record, or after the sign above the numbers, if there are any
+-- fields after the number of their record, or after the name above the numbers, if there are
+-- numbers
 abbrev pub row_after_number : Bool → Text → List Text → List Text
 row_after_number is_numbered number fields = if is_numbered then number ∷ fields else fields
 
--- the fields of records, from that of this number on
+-- the fields of records, which are counted from `number` on
 abbrev pub rows_from :
     Bool → (ℕ → Option Points) → List ℕ → ℕ → List (List Text) → List (List Text)
 rows_from is_numbered marks positions number [] = []
@@ -212,7 +214,7 @@ rows_from is_numbered marks positions number (fields ∷ rows) =
     row_after_number is_numbered (decimal number) (fields_at marks positions fields)
     ∷ rows_from is_numbered marks positions (number + 1) rows
 
--- and the names of the header, if there is one, above them
+-- the fields of records below the names of the header, if there is one
 abbrev pub all_rows : Bool → (ℕ → Option Points) → List ℕ → Option (List Text)
     → List (List Text) → List (List Text)
 all_rows is_numbered marks positions names rows =
@@ -220,27 +222,27 @@ all_rows is_numbered marks positions names rows =
     row_after_number is_numbered (number_name fields) (fields_at no_marks positions fields))
     (option_to_list names) ++ rows_from is_numbered marks positions 1 rows
 
--- those that the record has, each after the name of its column, which is its number if there is no
--- name
+-- the fields that the record has, each after the name of its column, or its column's number if it
+-- has no name
 abbrev pub pairs_at : List Text → List ℕ → List Text → List (List Text)
 pairs_at names positions fields =
     map (λ position. cleaned false (name_at names position)
     ∷ cleaned false (field_or_blank fields position) ∷ [])
     (filter (λ position. nat_lt position (length fields)) positions)
 
--- a text shows the names and fields of an expanded record, all at the left
+-- a text shows the names and fields of an expanded record, left-aligned
 abbrev pub ShowsPairs : Look → List Text → List ℕ → List Text → Text → Type 0
 ShowsPairs look names positions fields text =
     ShowsRows look false true [] (whole_pairs look.width) (pairs_at names positions fields) text
 
--- the positions of the columns that each of some words chooses, in their order
+-- the positions of the columns that each word chooses, in the order of the words
 abbrev pub positions_by_each : {A : Type 0} → List Text → ℕ → List (String A) → List ℕ
 positions_by_each {A} names count words =
     flat_map (λ (word : String A). unwrap_or
     (option_map positions_between (columns_chosen names count (string_bytes word))) []) words
 
--- the positions of the columns that some words choose: that of the name which all of them are, with
--- commas between them, else those of each
+-- the positions of the columns that words choose: that of the name which they are when joined by
+-- commas, or else those of each word
 abbrev pub positions_by : {A : Type 0} → List Text → ℕ → List (String A) → List ℕ
 positions_by names count words =
     option_map_or (λ position. positions_between (position, position + 1)) (whole_name names words)
@@ -256,7 +258,7 @@ positions_in options names rows =
     else positions_by names (count_of names rows) options.columns.chosen.items)
     (positions_by names (count_of names rows) options.columns.dropped.items)
 
--- the columns that options choose of a header and rows, and their sides
+-- the columns that options choose of a header and rows, and their alignments
 abbrev pub columns_asked : Options → List Text → List (List Text) → ColumnsValue
 columns_asked options names rows =
     record {
@@ -265,7 +267,7 @@ columns_asked options names rows =
       left = positions_by names (count_of names rows) options.columns.left.items;
     }
 
--- a text shows these columns of a header, if there is one, and rows; or expands the rows
+-- a text shows these columns of the rows, and of the header if there is one; or it expands the rows
 abbrev pub ShowsFields :
     Bool → Look → Selection → ColumnsValue → Option (List Text) → List (List Text) → Option ℕ → Text
     → Type 0
@@ -278,8 +280,8 @@ ShowsFields true look selection columns names rows count text =
     AreExpanded (ShowsPairs look (unwrap_or names []) columns.drawn) selection.noun count 1 rows
     text
 
--- a text shows what a layout draws of records: the header, if there is one, and below it as many as
--- the layout asks for, in its columns; and the note on others, which may count them so
+-- A text shows the layout's columns of the records that the layout draws, below the header, if
+-- there is one, and the note about other records. `MayCount` restricts the number in the note.
 abbrev pub ShowsAllFields : (Option ℕ → Type 0) → Layout → List (List Text) → Text → Type 0
 ShowsAllFields MayCount layout records text =
     IsDrawnWithNote (λ is_expanded.
@@ -287,22 +289,22 @@ ShowsAllFields MayCount layout records text =
     (names_of layout.selection.has_header records) (drawn_rows layout.selection records)) MayCount
     layout.look.expansion layout.selection text
 
--- it shows the columns that options choose
+-- the same for the columns that options choose
 abbrev pub ShowsDrawn :
     Bool → Options → Option (List Text) → List (List Text) → Option ℕ → Text → Type 0
 ShowsDrawn is_expanded options names rows count text =
     ShowsFields is_expanded options.look options.selection
     (columns_asked options (unwrap_or names []) rows) names rows count text
 
--- a text shows records: the header, if there is one, and below it as many as options ask for, and
--- the note on others
+-- a text shows records: the header, if there is one, and below it as many as options select, and
+-- the note about others
 abbrev pub ShowsRecords : Options → List (List Text) → Text → Type 0
 ShowsRecords options records text =
     IsWrittenFor (λ is_expanded. ShowsDrawn is_expanded options
     (names_of options.selection.has_header records) (drawn_rows options.selection records)) options
     records text
 
--- a field of which no character is replaced stays as it is
+-- a field without replaced characters stays as it is
 abbrev pub StaysAsItIs : Bool → Text → Type 0
 StaysAsItIs keeps_sequences field =
     IsUtf8 field → list_any is_replaced (chars field) ≡ false

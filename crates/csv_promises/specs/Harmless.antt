@@ -1,4 +1,4 @@
--- An output sends a terminal nothing but text and, if they are wanted, colours and attributes.
+-- An output sends a terminal only text and, if requested, colours and attributes.
 -- Source: this library's own.
 use Rattle.std.specs.Prelude.{◌≡◌, ◌⊎◌, [], ◌++◌, true, false, codes}
 use Rattle.std.specs.Str.{NoCharPasses}
@@ -9,8 +9,8 @@ use Rattle.csv_tables.specs.declared.options.Look.{Look}
 use Rattle.promises.specs.Shown.{Shows}
 use Rattle.csv_promises.specs.Counted.{HasEachLine}
 
--- a text, and the same text with parts of it in bold: each between the sequences that begin bold
--- and end it
+-- a text, and the same text with parts of it in bold, each between the sequences that begin and end
+-- bold
 pub data IsInBold : Text → Text → Type 0 where
   nothing : IsInBold [] []
   plain : (part line styled : Text) → IsInBold line styled
@@ -18,15 +18,16 @@ pub data IsInBold : Text → Text → Type 0 where
   bold : (part line styled : Text) → IsInBold line styled
       → IsInBold (part ++ line) ((codes "\u{1b}[1m" ++ (part ++ codes "\u{1b}[0m")) ++ styled)
 
--- a terminal shows a text without its SGR sequences, which set colours and attributes. The visible
--- text has no control character but line feeds, and no character that turns the direction of text
+-- A terminal shows a text without its SGR sequences, which set colours and attributes. Line feeds
+-- are the only control characters of this visible text, and no character of it turns the direction
+-- of text.
 abbrev pub ShowsNothingHarmful : Text → Type 0
 ShowsNothingHarmful text = (visible : Text) × Shows text visible × NoCharPasses is_harmful visible
 
--- the visible text of an output has no control character but line feeds, and no character that
--- turns the direction of text. Unless colours of fields are kept, its only sequences begin bold
--- and end it; and without bold it has none. If they are kept, no sequence is open at the end of a
--- line
+-- Line feeds are the only control characters of an output's visible text, and no character of it
+-- turns the direction of text. Unless colours of fields are kept, the only sequences begin and end
+-- bold, and without bold there are none. If colours are kept, no sequence is open at the end of a
+-- line.
 pub record IsHarmlessFor (look : Look) (output : Text) : Type 0 where
   pub visible : Text
   pub shows : Shows output visible

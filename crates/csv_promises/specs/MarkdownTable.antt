@@ -1,4 +1,4 @@
--- What a reader of a Markdown table gets back.
+-- The fields that a reader of a Markdown table gets back.
 -- Source: this library's own; CommonMark for backslashes, GitHub for tables.
 use Rattle.std.specs.Prelude.{◌≡◌, ◌⊎◌, ℕ, ◌≤◌, true, List, [], ◌∷◌, ◌++◌, Option, Some, All, chars, length, map}
 use Rattle.std.specs.List.{AllZip}
@@ -14,24 +14,24 @@ use Rattle.csv_tables.specs.MarkdownLines.{parts_between_bars, read_part, withou
 use Rattle.csv_promises.specs.Counted.{IsCount}
 use Rattle.csv_promises.specs.Fields.{all_rows, no_marks, positions_in}
 
--- a line has these fields: it is cut at its bars, but not at one after a backslash, and in each
--- part what follows a backslash is meant, and `<br>` is a line break. Spaces at the ends of a part
--- and of a field don't count
+-- A line has these fields. A reader splits it at its bars, except those after a backslash. In each
+-- part a backslash stands for the character after it, and `<br>` for a line break. Spaces at the
+-- ends of a part and of a field don't count.
 abbrev pub HasFields : List Text → Text → Type 0
 HasFields fields line =
     map read_part (parts_between_bars (chars line))
     ≡ [] ∷ (map (λ (field : Text). without_outer_spaces (chars field)) fields ++ [] ∷ [])
 
--- the line below the header has dashes and a bar for each of n columns; the last dash is a colon if
--- the column is at the right
+-- the line below the header has dashes and a bar for each of n columns; the last dash of a
+-- right-aligned column is a colon
 pub record IsRule (n : ℕ) (line : Text) : Type 0 where
   pub sides : List (Option CellAlignment)
   pub widths : List ℕ
   pub one_for_each : (length sides ≡ n) × (length widths ≡ n)
   pub is : line ≡ rule_line sides widths
 
--- the names, which are blank if there is no header, and below them the records that are drawn:
--- each with its fields in the columns that options choose, and with its number if that is asked for
+-- the names, which are blank if there is no header, and below them the drawn records: each with its
+-- fields in the columns that options choose, and with its number if that is requested
 abbrev pub names_and_rows : Options → List (List Text) → List (List Text)
 names_and_rows options records =
     all_rows options.selection.is_numbered no_marks
@@ -39,8 +39,8 @@ names_and_rows options records =
     (drawn_rows options.selection records)) (Some (names_or_none options.selection records))
     (drawn_rows options.selection records)
 
--- a text is a Markdown table of records: a line for the names, a rule, and one line for each record
--- that is drawn, with its fields; and below an empty line the note on others
+-- a text is a Markdown table of records: a line for the names, a rule, one line with the fields of
+-- each drawn record, and below an empty line the note about others
 pub record IsMarkdownTable (options : Options) (records : List (List Text)) (text : Text)
     : Type 0 where
   pub count : Option ℕ
@@ -58,8 +58,8 @@ pub record IsMarkdownTable (options : Options) (records : List (List Text)) (tex
       All (λ (fields : List Text). length fields ≡ columns) (names_and_rows options records)
   pub have_fields : AllZip HasFields (names_and_rows options records) (header ∷ lines)
 
--- what is written of records is such a table, or nothing if there are none. No line of a field, as
--- it is written, takes more than 65535 terminal columns
+-- the output for records is such a table, or nothing without records. No line of a field, as it is
+-- written, may take more than 65535 terminal columns
 abbrev pub IsWrittenAsMarkdown : Options → List (List Text) → Text → Type 0
 IsWrittenAsMarkdown options records text =
     EachText (λ line. measure line ≤ 65535) options.look records

@@ -1,4 +1,4 @@
--- What messages are made of.
+-- The characters of messages.
 -- Source: this library's own.
 use Rattle.std.specs.Prelude.{◌≡◌, ◌||◌, ◌++◌, codes}
 use Rattle.std.specs.Char.{is_control}
@@ -10,6 +10,6 @@ use Rattle.csv_records.specs.Cleaning.{turns_direction}
 abbrev pub IsTame : Text → Type 0
 IsTame text = NoCharPasses (λ c. is_control c || turns_direction c) text
 
--- a text is one line of such characters, and ends with a line feed
+-- a text is one line of such characters, and a line feed
 abbrev pub IsTameLine : Text → Type 0
 IsTameLine text = (line : Text) × (text ≡ line ++ codes "\n") × IsTame line

@@ -13,30 +13,31 @@ use Rattle.csv_tables.specs.Laws.{CharactersFitEachWidth}
 use Rattle.promises.specs.Shown.{ShowsColumns}
 use Rattle.csv_promises.specs.Counted.{EachDrawnLine}
 
--- P holds of each field of each record
+-- P holds for each field of each record
 abbrev pub EachField : (Text → Type 0) → List (List Text) → Type 0
 EachField P records = All (All P) records
 
--- a field has no control character and none that turns the direction of text, so it is drawn as it
--- is; and it takes at most 65535 terminal columns
+-- a field that is drawn as it is, and takes at most 65535 terminal columns: it has no control
+-- character, and no character that turns the direction of text
 pub record IsPlainField (field : Text) : Type 0 where
   pub plain : list_any (λ c. is_control c || turns_direction c) (chars field) ≡ false
   pub short : measure field ≤ 65535
 
--- all lines that are written of records show the same number of terminal columns, but those that
+-- all lines of the output for records show the same number of terminal columns, except those that
 -- count records
 abbrev pub IsStraight : Options → List (List Text) → Text → Type 0
 IsStraight options records text =
     (columns : ℕ) × EachDrawnLine (ShowsColumns columns) options records text
 
--- each character of the drawn fields and names has room in its column: for the columns that options
--- choose, in each table that may be drawn of the records, for the widths that are arranged for it
+-- Each character of the drawn fields and names has room in its column. This is about the columns
+-- that options choose, each table that may be drawn of the records, and the widths that are
+-- arranged for it.
 abbrev pub FieldsFitTheirColumns : Options → List (List Text) → Type 0
 FieldsFitTheirColumns options records =
     (known : Option ℕ) (columns : ColumnsValue) → columns_for options records ≡ Ok columns
     → CharactersFitEachWidth known (layout_with options columns) records
 
--- then what is written of the records is straight
+-- in this case the output for the records is straight
 abbrev pub IsStraightWhereFieldsFit : Options → List (List Text) → Text → Type 0
 IsStraightWhereFieldsFit options records text =
     FieldsFitTheirColumns options records → IsStraight options records text

@@ -13,20 +13,20 @@ use Rattle.csv_promises.specs.Counted.{EachDrawnLine}
 use Rattle.csv_promises.specs.Straight.{EachField, IsStraight}
 use Rattle.csv_promises.specs.WideTexts.{HasRoomForTwo, HaveRoomEach, IsOfTwoColumns}
 
--- the borders around so many columns, their paddings, and one terminal column for each
+-- the width of the borders around n columns, their paddings, and one terminal column for each
 abbrev pub frame_room : ℕ → ℕ
 frame_room n = 1 + 4 * n
 
--- the columns that are drawn of records: those at the positions that are chosen of the header and
--- the drawn rows, and that of numbers
+-- the number of columns that are drawn of records: those that options choose of the header and the
+-- drawn rows, and that of record numbers
 abbrev pub all_columns : Options → List (List Text) → ℕ
 all_columns options records =
     length (positions_in options (names_or_none options.selection records)
     (drawn_rows options.selection records))
     + (if options.selection.is_numbered then 1 else 0)
 
--- how many columns a frame is drawn for: all; or, where records are expanded, as they are where a
--- width has no room, those of names and fields, unless no record is drawn below the header
+-- The number of columns in a frame. It is two, for names and fields, if records are always
+-- expanded, or may be expanded and one is drawn. Otherwise it is n.
 abbrev pub columns_by : Expansion → Bool → ℕ → ℕ
 columns_by Never has_rows n = n
 columns_by Always has_rows n = 2
@@ -37,26 +37,26 @@ framed_columns options records =
     columns_by options.look.expansion
     (not (length (drawn_rows options.selection records) == 0)) (all_columns options records)
 
--- the number of columns that a layout draws: its own, and that of record numbers
+-- the number of columns that a layout draws, including that of record numbers
 abbrev pub columns_in : Layout → ℕ
 columns_in layout =
     length layout.columns.drawn + (if layout.selection.is_numbered then 1 else 0)
 
--- the number of columns for which its frame is drawn
+-- the number of columns in the frame of a layout
 abbrev pub framed_columns_in : Layout → List (List Text) → ℕ
 framed_columns_in layout records =
     columns_by layout.look.expansion
     (not (length (drawn_rows layout.selection records) == 0)) (columns_in layout)
 
--- a line shows no more terminal columns than a width or a frame has; and exactly those of the
--- width, where that is filled and has room for the frame
+-- a line shows at most as many terminal columns as the width or the frame has, and exactly those of
+-- the width if it is filled and has room for the frame
 pub record KeepsTo (width frame : ℕ) (is_filled : Bool) (line : Text) : Type 0 where
   pub columns : ℕ
   pub shows : ShowsColumns columns line
   pub within : columns ≤ max width frame
   pub exact : is_filled ≡ true → frame ≤ width → columns ≡ width
 
--- what is written of records keeps to the width that options have, if each character has room
+-- the output for records keeps to the width that options set, if each character has room
 abbrev pub KeepsItsWidth : Options → List (List Text) → Text → Type 0
 KeepsItsWidth options records text =
     (width : ℕ) → options.look.width ≡ Some width
@@ -64,7 +64,7 @@ KeepsItsWidth options records text =
     → EachDrawnLine (KeepsTo width (frame_room (framed_columns options records))
     options.look.fills_width) options records text
 
--- and it is straight, for characters of two terminal columns
+-- it is straight, for characters of two terminal columns
 abbrev pub IsStraightWhereTwoFit : Options → List (List Text) → Text → Type 0
 IsStraightWhereTwoFit options records text =
     EachField IsOfTwoColumns records

@@ -1,4 +1,4 @@
--- Private: what is written of an input for arguments.
+-- Private: the output for arguments and an input.
 -- Source: this library's own.
 use Rattle.std.specs.Prelude.{◌≡◌, Bool, false, List}
 use Rattle.comfy_parts.specs.Text.{Text}
@@ -8,8 +8,8 @@ use Rattle.csv_command.specs.declared.arguments.OutputContext.{OutputContext}
 use Rattle.csv_records.specs.Reading.{AreRecordsFor}
 use Rattle.csv_command.specs.Drawn.{IsDrawnOf}
 
--- arguments ask for a table for Markdown, or for another one, in which no sequences are kept; and
--- these are the records of an input, and what is written of it
+-- The arguments request a table for Markdown, or another one, in which no sequences are kept.
+-- `records` are the records of the input, and `output` is its output.
 pub record IsWritten (is_markdown : Bool) (arguments : List Text) (context : OutputContext)
     (invocation : Invocation) (input : Text) (records : List (List Text)) (output : Text)
     : Type 0 where

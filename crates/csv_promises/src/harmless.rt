@@ -1,4 +1,4 @@
-//! No file speaks to your terminal.
+//! No file can control your terminal.
 
 ghost use Rattle.std.specs.Prelude.{IfOk, IfSome, string_bytes};
 ghost use Rattle.csv_promises.specs.Harmless.{IsHarmlessFor, ShowsNothingHarmful};
@@ -9,14 +9,14 @@ use csv_command::{CsvError, Invocation, Options, OutputContext, Refusal, draw, p
 use devices::{MemorySink, MemorySource};
 use std::alloc::Global;
 
-/// The arguments as they are understood, and what the program writes for them and for these bytes
-/// of a file. Whatever these are, and the terminal, it tells a terminal nothing but characters and
-/// line ends, and the sequences that begin bold and end it. Without a bold header it has no
-/// sequence. With `--ansi` it may have any sequence for colours and attributes, but none is open at
-/// the end of a line. What is visible of it has no control character but line feeds, and no
-/// character that turns the direction of text.
+/// Returns the parsed arguments, and the output of the program for them and these bytes of a file.
+/// Whatever the bytes and the terminal are, the output has only characters, line ends, and the
+/// sequences that begin and end bold. Without a bold header it has no sequence. With `--ansi` it
+/// may have any sequence for colours and attributes, but none is open at the end of a line. Line
+/// feeds are the only control characters of its visible text, and no character of this text turns
+/// the direction of text.
 ///
-/// It is `None` if the arguments ask for no drawing, if the bytes can't be drawn so, or if memory
+/// Returns `None` if the arguments request no drawing, if the bytes can't be drawn, or if memory
 /// runs out.
 pub fn harmless_output(
     alloc: Global,
@@ -32,11 +32,11 @@ pub fn harmless_output(
     Some((invocation, sink))
 }
 
-/// What a caller gets as a value for these arguments and these bytes, for no terminal. What is
-/// visible of it, without sequences for colours and attributes, has no control character but line
-/// feeds, and no character that turns the direction of text.
+/// Returns the drawing that a caller gets as a value for these arguments and these bytes, for no
+/// terminal. Its visible text is without sequences for colours and attributes. Line feeds are the
+/// only control characters of this text, and no character of it turns the direction of text.
 ///
-/// It is `None` if the arguments ask for no drawing, if the bytes can't be drawn so, or if memory
+/// Returns `None` if the arguments request no drawing, if the bytes can't be drawn, or if memory
 /// runs out.
 pub fn harmless_drawing(alloc: Global, arguments: &[&str], input: &[u8]) -> Option<String>
     ensures { IfSome result (λ drawing. ShowsNothingHarmful (string_bytes drawing)) }
@@ -44,10 +44,12 @@ pub fn harmless_drawing(alloc: Global, arguments: &[&str], input: &[u8]) -> Opti
     render_csv(alloc, arguments, input).ok()
 }
 
-/// The line that `csvtable` writes on standard error if these bytes can't be drawn as these
-/// arguments ask: nothing if they can, or if the arguments ask for no drawing. Whatever the bytes,
-/// the names in them and the name of the file are, its only control character is the line feed at
-/// its end, and no character turns the direction of text.
+/// Returns the line that `csvtable` writes on standard error if these bytes can't be drawn as these
+/// arguments request. Whatever the bytes, the names in them and the name of the file are, the line
+/// feed at its end is its only control character, and no character turns the direction of text.
+///
+/// Returns `None` if the bytes can be drawn, if the arguments request no drawing, or if memory runs
+/// out.
 pub fn harmless_message(alloc: Global, arguments: &[&str], input: &[u8]) -> Option<String>
     ensures { IfSome result (λ message. IsTameLine (string_bytes message)) }
 {
@@ -57,7 +59,7 @@ pub fn harmless_message(alloc: Global, arguments: &[&str], input: &[u8]) -> Opti
     }
 }
 
-/// A sink that holds the output for an input.
+/// Returns a sink that holds the output for an input.
 pub(crate) fn output_for(
     alloc: Global,
     input: &[u8],

@@ -1,6 +1,6 @@
-//! What users of `csvtable` are promised, in their words. Each function calls the library as the
-//! program does, and its one clause speaks of what the call returns. So a reader needs to believe
-//! no definition but those of the clause.
+//! Promises to users of `csvtable`, in their words. Each function calls the library as the program
+//! does, and its one clause is about the result of the call. A reader needs to trust only the
+//! definitions of this clause.
 #![tactic(auto)]
 
 pub mod harmless;

@@ -9,15 +9,15 @@ use csv_records::Records;
 use devices::MemorySink;
 use std::alloc::Global;
 
-/// The arguments as they are understood, the records of a file's bytes, and the Markdown that the
-/// program writes of them: a line for the names, a rule with a part for each column, and one line
-/// for each drawn record. A line is read by cutting it at its bars, and by reading backslashes and
-/// `<br>`. It gives back its fields, as they are cleaned, without the spaces at their ends. If not
-/// all records are drawn, a line below an empty one counts them.
+/// Returns the parsed arguments, the records of a file's bytes, and the output of the program for
+/// them as Markdown: a line for the names, a rule with a part for each column, and one line for
+/// each drawn record. A reader splits a line at its bars, and reads backslashes and `<br>`. The
+/// line then gives back its cleaned fields, without the spaces at their ends. If not all records
+/// are drawn, a line below an empty one counts them.
 ///
-/// This holds if no line of a field, as it is written, takes more than 65535 terminal columns. It
-/// is `None` unless the arguments ask for `--markdown` and not for `--ansi`, if the whole input
-/// can't be read or drawn so, or if memory runs out.
+/// This holds if no line of a field, as it is written, takes more than 65535 terminal columns.
+/// Returns `None` unless the arguments request `--markdown` without `--ansi`, and also if the whole
+/// input can't be read or drawn, or if memory runs out.
 pub fn markdown_output(
     alloc: Global,
     arguments: &[&str],

@@ -13,13 +13,14 @@ use csv_records::{Records, decoded, read_records};
 use devices::MemorySink;
 use std::alloc::Global;
 
-/// The records of a file's bytes, and the output that the program writes of them for these
-/// arguments. All lines of the output show the same number of terminal columns, except those that
-/// count records, under every width and height, with a bold header, and if records are expanded.
+/// Returns the parsed arguments, the records of a file's bytes, and the output of the program for
+/// them. All lines of the output show the same number of terminal columns, except those that count
+/// records. This holds under every width and height, with a bold header, and if records are
+/// expanded.
 ///
-/// This holds if each character of each field takes at most one terminal column, and none is
-/// U+FE01. It is `None` if the arguments ask for `--ansi`, Markdown or no drawing, if the whole
-/// input can't be read or drawn so, or if memory runs out.
+/// It holds if each character of each field takes at most one terminal column, and none is U+FE01.
+/// Returns `None` if the arguments request `--ansi`, Markdown or no drawing, if the whole input
+/// can't be read or drawn, or if memory runs out.
 pub fn straight_output(
     alloc: Global,
     arguments: &[&str],
@@ -35,7 +36,7 @@ pub fn straight_output(
     Some((parsed, records, sink))
 }
 
-/// As `straight_output`, for texts of every script, with the arguments as they were understood.
+/// Like `straight_output`, for texts of every script.
 ///
 /// This holds if each character of each drawn field and name has room in its column, and U+FE01 is
 /// nowhere directly next to U+FE0E or U+FE0F. A character takes at most two terminal columns,
@@ -54,12 +55,12 @@ pub fn straight_fitting_output(
     Some((asked, records, sink))
 }
 
-/// As `straight_output`, for texts of every script, under a width that has room.
+/// Like `straight_output`, for texts of every script, under a width that has room.
 ///
-/// This holds if each character of each field takes at most two terminal columns, as all do but
-/// U+17D8, and none is U+FE01 or U+FE0E. The width has to be at least 1 + 5 n. Here n is the number
-/// of columns that a frame is drawn for: two, if records are or may be expanded and one is drawn,
-/// and otherwise all drawn columns.
+/// This holds if each character of each field takes at most two terminal columns, as all do except
+/// U+17D8, and none is U+FE01 or U+FE0E. The width must be at least 1 + 5 n, for a frame around n
+/// columns. There are two if records are always expanded, or may be expanded and one is drawn.
+/// Otherwise these are all drawn columns.
 pub fn straight_wide_output(
     alloc: Global,
     arguments: &[&str],
@@ -74,10 +75,11 @@ pub fn straight_wide_output(
     Some((wanted, records, sink))
 }
 
-/// As `straight_output`, for texts of every script. It is `None` also under a width and under `-m`.
+/// Like `straight_output`, for texts of every script. Also returns `None` under a width and under
+/// `-m`.
 ///
-/// This holds if each field takes at most 65535 terminal columns, and has no control character and
-/// none that turns the direction of text, so that it is drawn as it is.
+/// This holds if each field takes at most 65535 terminal columns, and is drawn as it is: it has no
+/// control character, and no character that turns the direction of text.
 pub fn straight_whole_output(
     alloc: Global,
     arguments: &[&str],
@@ -95,9 +97,9 @@ pub fn straight_whole_output(
     Some((invocation, records, sink))
 }
 
-// The arguments as they are understood, the records of an input, and the output for both, for
-// Markdown or not. `None` for fields with sequences, for arguments that ask for the other, and
-// after any error.
+// Returns the parsed arguments, the records of an input, and the output for both, for Markdown or
+// not. Returns `None` if fields keep their sequences, if the arguments request the other kind of
+// output, and after any error.
 pub(crate) fn written(
     alloc: Global,
     arguments: &[&str],

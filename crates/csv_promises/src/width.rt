@@ -9,15 +9,16 @@ use csv_records::Records;
 use devices::MemorySink;
 use std::alloc::Global;
 
-/// The arguments as they are understood, the records of a file's bytes, and the output that the
-/// program writes of them. Under a width no line shows more terminal columns than the width, or
-/// than the frame takes, except lines that count records. If the width is filled and has room for
-/// the frame, each line shows exactly as many. The frame is that of two columns if records are or
-/// may be expanded, and otherwise that of all drawn columns.
+/// Returns the parsed arguments, the records of a file's bytes, and the output of the program for
+/// them. Under a width, no line shows more terminal columns than the width, or than the frame if
+/// that is wider. Lines that count records are exempt. If the width is filled and has room for the
+/// frame, each line shows exactly as many as the width. The frame is that of two columns if records
+/// are always expanded, or may be expanded and one is drawn. Otherwise it is that of all drawn
+/// columns.
 ///
 /// This holds if each character of each field takes at most one terminal column, and none is
-/// U+FE01. It is `None` if the arguments ask for `--ansi`, Markdown or no drawing, if the whole
-/// input can't be read or drawn so, or if memory runs out.
+/// U+FE01. Returns `None` if the arguments request `--ansi`, Markdown or no drawing, if the whole
+/// input can't be read or drawn, or if memory runs out.
 pub fn output_within(
     alloc: Global,
     arguments: &[&str],

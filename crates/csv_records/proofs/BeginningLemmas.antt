@@ -30,7 +30,7 @@ use Rattle.csv_records.specs.declared.encoding.Encoding.{Encoding}
 use Rattle.csv_records.specs.declared.encoding.Encoding.TheVariants.{Cp1252, Utf16, Utf8}
 use Rattle.csv_records.specs.declared.options.InputOptions.{InputOptions}
 
--- a value that may be there is, or isn't
+-- an optional value is missing or there
 cases_Option : {A : Type 0} (o : Option A) → (o ≡ None) ⊎ ((x : A) × (o ≡ Some x))
 cases_Option None = inl refl
 cases_Option (Some x) = inr (x, refl)
@@ -42,7 +42,7 @@ abbrev run : Config → State → Text → State
 run cfg s text = fold (λ (state : State) (b : ℕ). (step cfg state b).0) s text
 
 module _ (cfg : Config) (rest : Text) where
-  -- a record of a text ends where the text ends, or before: then it is the same where more follows
+  -- A record of a text ends where the text ends, or before. If it ends before, it is the same when the text goes on.
   data Ends (s : State) (fields : List Text) (field : Text) (text : Text) (p : Read) : Type 0 where
     at_end : ends_at_end (run cfg s text) ≡ true → p.1 ≡ st.StartRecord → p.2 ≡ [] → Ends s fields field text p
     before : next_record cfg s fields field (text ++ rest) ≡ Some (p.0, p.1, p.2 ++ rest) → run cfg s text ≡ run cfg p.1 p.2 → Ends s fields field text p
@@ -63,11 +63,11 @@ module _ (cfg : Config) (rest : Text) where
             ]
       ]
 
-  -- where the text ends between records, no record ends with the text alone
+  -- if a text ends between records, no record ends only because the text does
   between : (s : State) (text : Text) → run cfg s text ≡ st.StartRecord → ends_at_end (run cfg s text) ≡ true → ⊥
   between s text ends unended = grind arith
 
-  -- all records of a text that ends between records, and of one that goes on
+  -- the records of a text that ends between records come first among those of a text that goes on
   all_records : (s : State) (text : Text) (records all : List (List Text)) → run cfg s text ≡ st.StartRecord → AreRecords cfg s text records → AreRecords cfg s (text ++ rest) all → (more : List (List Text)) × (all ≡ records ++ more)
   unfolding Reached
   all_records s text [] all ends are known = (all, refl)
@@ -85,7 +85,7 @@ module _ (cfg : Config) (rest : Text) where
             (others.0, ap₂ (λ (x : List Text) (xs : List (List Text)). x ∷ xs) (at_found ∙ ap (λ (f : Read). f.0) same ∙ sym at) others.1)
       ]
 
-  -- the first records of a text that has one more
+  -- if a text has more than n records, its first n are the same when it goes on
   same_first : (n : ℕ) (s : State) (text : Text) → length (records_from cfg (suc n) s text) ≡ suc n → records_from cfg n s (text ++ rest) ≡ records_from cfg n s text
   unfolding records_from next_record
   same_first zero s text is = refl
@@ -119,7 +119,7 @@ module _ (d : ℕ) (other : (0x0A == d) ≡ false) where
   state_at_end : (q : Bool) (text : Text) → EndsWithLine text → run (config_for d q) st.StartRecord text ≢ st.InQuoted → run (config_for d q) st.StartRecord text ≡ st.StartRecord
   state_at_end q text (front, is) outside = grind (arith, after_feed, fold-append)
 
--- without quotes none is ever entered
+-- without quotes the reader never enters a quoted field
 abbrev is_outer : State → Bool
 is_outer st.StartRecord = true
 is_outer st.StartField = true
@@ -156,7 +156,7 @@ module _ (d : ℕ) where
 
 -- ---- lines
 
--- the first line, and what is below it, where a byte is no line end and where it is
+-- the first line, and the text below it, for a first byte that is no line end and for one that is
 inside_line : (c : ℕ) (text : Text) → ends_line c ≡ false → (below_line (c ∷ text) ≡ below_line text) × (first_line (c ∷ text) ≡ c ∷ first_line text)
 inside_line c text is = (ap (λ (n : ℕ). drop (end_len (drop n (c ∷ text))) (drop n (c ∷ text))) place, ap (λ (n : ℕ). take n (c ∷ text)) place)
   where
@@ -167,7 +167,7 @@ at_line_end : (c b : ℕ) (text : Text) → ends_line c ≡ true → (below_line
 at_line_end c b text is = grind arith
 
 module _ (rest : Text) where
-  -- where a text goes on, its first line stays, and what is below it goes on
+  -- when a text goes on, its first line stays, and the text below it goes on
   record LineStays (text : Text) : Type 0 where
     below : below_line (text ++ rest) ≡ below_line text ++ rest
     first : first_line (text ++ rest) ≡ first_line text
@@ -177,7 +177,7 @@ module _ (rest : Text) where
   feed_below [] = (refl, refl)
   feed_below (b ∷ more) = (refl, refl)
 
-  -- a line end, another byte, and what follows
+  -- a line end, another byte, and the text after them
   end_stays : (c b : ℕ) (text : Text) → ends_line c ≡ true → (text ≡ [] → b ≡ 0x0A) → ((text ≡ []) ⊎ EndsWithLine text) → LineStays (c ∷ b ∷ text)
   end_stays c b text is last ends =
       let whole = at_line_end c b (text ++ rest) is in
@@ -219,7 +219,7 @@ module _ (rest : Text) where
       by_end true is more = here is front
       by_end false is more = later is more
 
-  -- so do the lines that are left out
+  -- the lines that are left out stay too
   record LinesStay (count : ℕ) (text : Text) : Type 0 where
     below : below_lines count (text ++ rest) ≡ below_lines count text ++ rest
     ends : EndsWithLine (below_lines count text)
@@ -243,7 +243,7 @@ module _ (rest : Text) where
       by_line : LineStays text → ((t : Text) → EndsWithLine t → (below_lines count t ≡ []) ⊎ LinesStay count t) → (below_lines (suc count) text ≡ []) ⊎ LinesStay (suc count) text
       by_line line later = by_ends line later line.ends
 
-  -- a byte-order mark in front
+  -- so does a byte-order mark at the front
   record MarkStays (text : Text) : Type 0 where
     rest_of : strip_bom (text ++ rest) ≡ strip_bom text ++ rest
     ends : EndsWithLine (strip_bom text)
@@ -287,9 +287,9 @@ module _ (rest : Text) where
   line_stays_in : (text : Text) → EndsWithLine text → LineStays text
   line_stays_in text (front, is) = subst LineStays (sym is) (line_stays front)
 
-  -- ---- what stands between fields
+  -- ---- the delimiter
 
-  -- what holds the records of a text goes on as the text does, and ends with a line, if it isn't empty
+  -- the part of a text with its records goes on as the text does, and ends with a line feed if it isn't empty
   record PartsStay (whole own : ℕ × Text) : Type 0 where
     same : whole ≡ (own.0, own.1 ++ rest)
     ends : (own.1 ≡ []) ⊎ EndsWithLine own.1
@@ -306,7 +306,7 @@ module _ (rest : Text) where
         ap (λ (t : Text). option_map (λ (b : ℕ). (b, below_line t)) (delimiter_in (first_line t))) mark.rest_of
         ∙ ap₂ (λ (below first : Text). option_map (λ (b : ℕ). (b, below)) (delimiter_in first)) line.below line.first
 
-    -- where a first line names the delimiter, and where it doesn't
+    -- by a first line that names the delimiter, or doesn't
     by_name : (k l : ℕ) → (named_delimiter text ≡ None → l ≡ k) → PartsStay (unwrap_or (named_delimiter (text ++ rest)) (l, text ++ rest)) (unwrap_or (named_delimiter text) (k, text))
     by_name k l same = by_found (delimiter_in (first_line (strip_bom text))) refl
       where
@@ -345,12 +345,12 @@ module _ (rest : Text) where
 
 -- ---- the text of an input
 
--- what is below lines of an input is its end
+-- the text below some lines of an input is a suffix of the input
 lines-EndsIn : (count : ℕ) (text : Text) → EndsIn text (below_lines count text)
 lines-EndsIn zero text = ([], refl)
 lines-EndsIn (suc count) text = EndsIn-trans text (below_line text) (below_lines count (below_line text)) (line-EndsIn text) (lines-EndsIn count (below_line text))
 
--- an input ends where what is below its lines does
+-- an input ends with a line feed if the text below its lines does
 ends_below : (skip : ℕ) (input : Text) → EndsWithLine (below_lines skip input) → EndsWithLine input
 ends_below skip input (front, is) = by_front (lines-EndsIn skip input)
   where
@@ -384,7 +384,7 @@ encoded_both : (cs ds : List ℕ) → encode_utf8_all (cs ++ ds) ≡ encode_utf8
 encoded_both [] ds = refl
 encoded_both (c ∷ cs) ds = grind (arith, append_assoc, encoded_both cs ds)
 
--- what is below its lines goes on
+-- the text below its lines goes on
 below_stays : (skip : ℕ) (beginning behind : Text) → EndsWithLine (below_lines skip beginning) → below_lines skip (beginning ++ behind) ≡ below_lines skip beginning ++ behind
 below_stays skip beginning behind ends = by_lines (lines_stay behind skip beginning (ends_below skip beginning ends)) ends
   where
@@ -396,7 +396,7 @@ below_stays skip beginning behind ends = by_lines (lines_stay behind skip beginn
     by_lines (inl none) (front, is) = absurd (nothing front (sym none ∙ is))
     by_lines (inr stay) some = stay.below
 
--- and its text goes on
+-- its decoded text goes on
 text_stays : (e : Encoding) (skip : ℕ) (beginning behind text whole : Text) → e ≢ Utf16 → EndsWithLine (below_lines skip beginning) → IsDecoded e skip beginning text → IsDecoded e skip (beginning ++ behind) whole → (more : Text) × (whole ≡ text ++ more)
 text_stays Utf8 skip beginning behind text whole known ends is also = grind (arith, below_stays)
 text_stays Cp1252 skip beginning behind text whole known ends is also = grind (arith, below_stays, map-append, encoded_both)
@@ -406,7 +406,7 @@ feed_alone : encode_utf8_all (0x0A ∷ []) ≡ 0x0A ∷ []
 unfolding lib.Utf8.encode
 feed_alone = refl
 
--- it ends with a line feed
+-- its decoded text ends with a line feed
 text_ends : (e : Encoding) (skip : ℕ) (beginning text : Text) → e ≢ Utf16 → EndsWithLine (below_lines skip beginning) → IsDecoded e skip beginning text → EndsWithLine text
 text_ends Utf8 skip beginning text known ends is = subst EndsWithLine (sym is.1) ends
 text_ends Cp1252 skip beginning text known (front, ends) is = grind (arith, map-append, encoded_both, feed_alone)
@@ -431,7 +431,7 @@ found_other q text = grind arith
 abbrev byte_of : ℕ × Text → ℕ
 byte_of parts = parts.0
 
--- what is named or found
+-- the byte that is named or found
 chosen_other : (text : Text) (k : ℕ) → (0x0A == k) ≡ false → (0x0A == byte_of (unwrap_or (named_delimiter text) (k, text))) ≡ false
 chosen_other text k other = grind (arith, line_other)
 
@@ -468,11 +468,11 @@ first_records_stay options most beginning behind records all enough known =
     Goal : Type 0
     Goal = (more : List (List Text)) × (all ≡ records ++ more)
 
-    -- there are records
+    -- an enough beginning isn't empty, since it has records
     some_records : (cfg : Config) (text : Text) → text ≡ [] → AreRecords cfg st.StartRecord (strip_bom text) records → ⊥
     some_records cfg text none are = let no_records = none_in_nothing cfg records (rw (none, unmarked_nothing) at are) in let more = enough.more in omega (arith, more, ap (λ (rs : List (List Text)). length rs) no_records)
 
-    -- the texts of the records
+    -- by the parts of both texts with their records
     by_parts : (own whole : ℕ × Text) (rest : Text) → ((0x0A == own.0) ≡ false) → PartsStay rest whole own → AreRecords (config_for own.0 q) st.StartRecord (strip_bom own.1) records
         → (q ≡ true → state_after own.0 (strip_bom own.1) ≢ st.InQuoted) → AreRecords (config_for whole.0 q) st.StartRecord (strip_bom whole.1) all → Goal
     by_parts own whole rest other parts are closed also = by_ends parts.ends
@@ -493,7 +493,7 @@ first_records_stay options most beginning behind records all enough known =
     other : d ≢ Spaces
     other = no_spaces d q enough.text enough.shows
 
-    -- since spaces don't stand between fields, the records are those of the text itself
+    -- since spaces aren't the delimiter, the records are those of the text itself
     plain : (rows : List (List Text)) (text : Text) → AreRecords (config_for (parted options text).0 (reads_quotes options)) st.StartRecord (strip_bom (parted options text).1) rows
         → AreRecords (config_for (delimited d q text).0 q) st.StartRecord (strip_bom (delimited d q text).1) rows
     plain rows text are =

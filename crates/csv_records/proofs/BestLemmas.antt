@@ -1,4 +1,4 @@
--- The delimiter by which the most records agree.
+-- The delimiter with which most records agree.
 use Rattle.std.proofs.Common.{◌≡◌, ◌<◌, ◌≤◌, ◌==◌, ◌&&◌, ℕ, zero, suc, Bool, true, false, List, [], ◌∷◌, ◌++◌, Option, Some, None, ◌+◌, add-one, ap, drop, drop-cons, get_or, length, map, max, nat_lt, refl, arith, ◌∙◌, sym}
 use Rattle.std.proofs.lemmas.Bool.Decides.{nat_tests}
 use Rattle.std.proofs.lemmas.List.Folds.{find-append}
@@ -9,19 +9,19 @@ use Rattle.std.specs.Prelude.{if◌then◌else◌}
 use Rattle.comfy_parts.specs.Text.{greatest}
 use Rattle.csv_records.specs.Delimiter.{best_delimiter}
 
--- the greatest of what is said of some numbers, of those above 1
+-- the greatest value of h at the numbers above 1
 abbrev pub greatest_above : (ℕ → ℕ) → List ℕ → ℕ
 greatest_above h ns = greatest (map h (filter (λ (n : ℕ). nat_lt 1 n) ns))
 
 module _ (h : ℕ → ℕ) (ns : List ℕ) (i most all : ℕ) (inside : i < length ns) (had : max most (greatest_above h (drop i ns)) ≡ all) where
-  -- one of them is looked at
+  -- the next number is above 1, and its value counts
   pub one_above : (now : ℕ) → 1 < get_or ns i 0 → now ≡ max most (h (get_or ns i 0)) → max now (greatest_above h (drop (i + 1) ns)) ≡ all
   one_above now above is =
       let test : nat_lt 1 (get_or ns i 0) ≡ true = grind (arith, above, nat_tests) in
       let left : greatest_above h (drop i ns) ≡ max (h (get_or ns i 0)) (greatest_above h (drop (i + 1) ns)) = rw (drop-cons ns i 0 inside, test, add-one i) refl in
       omega (arith, left)
 
-  -- or one that isn't above 1
+  -- the next number isn't above 1
   pub none_above_one : (now : ℕ) → get_or ns i 0 ≤ 1 → now ≡ most → max now (greatest_above h (drop (i + 1) ns)) ≡ all
   none_above_one now below is =
       let test : nat_lt 1 (get_or ns i 0) ≡ false = grind (arith, below, nat_tests) in
@@ -47,7 +47,7 @@ module _ (agree : ℕ → ℕ) where
   itself : (n : ℕ) → 0 < n → (nat_lt 0 n && (n == n)) ≡ true
   itself n some = grind (arith, some, nat_tests)
 
-  -- where all agree less, none is the best
+  -- no delimiter is the best if all agree less
   none_above : (m : ℕ) (ds : List ℕ) → most_of ds < m → find (is_best m) ds ≡ None
   none_above m [] less = refl
   none_above m (d ∷ ds) less = rw (other m (agree d) (omega arith)) (none_above m ds (omega arith))
@@ -56,7 +56,7 @@ module _ (agree : ℕ → ℕ) where
   none_of_none [] = refl
   none_of_none (d ∷ ds) = rw (no_zero (agree d)) (none_of_none ds)
 
-  -- where some agree, there is a best one
+  -- there is a best delimiter if the greatest agreement is above 0
   some_best : (m : ℕ) (ds : List ℕ) → most_of ds ≡ m → 0 < m → is_some (find (is_best m) ds) ≡ true
   some_best m [] is some = absurd (omega arith)
   some_best m (d ∷ ds) is some = by_first (is_best m d) refl (λ others. some_best m ds others some)
@@ -68,7 +68,7 @@ module _ (agree : ℕ → ℕ) where
       by_first true first behind = refl
       by_first false first behind = behind (others_most (agree d) (most_of ds) is first)
 
-  -- a better one
+  -- one more delimiter is the best if it agrees more than all before it
   pub better : (ds : List ℕ) (d : ℕ) → most_of ds < agree d → best_delimiter agree (ds ++ d ∷ []) ≡ d
   better ds d more =
       let most : most_of (ds ++ d ∷ []) ≡ agree d = omega (arith, one_more ds d) in
@@ -77,7 +77,7 @@ module _ (agree : ℕ → ℕ) where
       ∙ ap (λ (o : Option ℕ). unwrap_or (option_or o (find (is_best (agree d)) (d ∷ []))) 0x2C) (none_above (agree d) ds more)
       ∙ ap (λ (v : Bool). unwrap_or (if v then Some d else None) 0x2C) (itself (agree d) (omega arith))
 
-  -- one that is no better
+  -- one more delimiter that agrees no more changes nothing
   pub no_better : (ds : List ℕ) (d : ℕ) → agree d ≤ most_of ds → best_delimiter agree (ds ++ d ∷ []) ≡ best_delimiter agree ds
   no_better ds d less =
       let most : most_of (ds ++ d ∷ []) ≡ most_of ds = omega (arith, one_more ds d) in
@@ -93,7 +93,7 @@ module _ (agree : ℕ → ℕ) where
       by_found (Some x) is = refl
       by_found None is = ap (λ (o : Option ℕ). unwrap_or o 0x2C) (by_most (most_of ds) refl is)
 
-  -- what is known behind one more
+  -- the state of the search after one more delimiter
   module _ (ds : List ℕ) (d n most : ℕ) (xs : List ℕ) (added : xs ≡ ds ++ d ∷ []) (is : n ≡ agree d) (had : most ≡ most_of ds) where
     pub after_better : most < n → (n ≡ most_of xs) × (d ≡ best_delimiter agree xs)
     after_better more = (

@@ -1,4 +1,4 @@
--- Texts that stay as they are where they are cleaned. Fields without harmful characters are such texts.
+-- Texts that stay as they are when they are cleaned. Fields without harmful characters are such texts.
 use Rattle.std.proofs.Common.{◌≡◌, ◌==◌, ℕ, Bool, true, false, List, [], ◌∷◌, ◌++◌, chars, encode_utf8, encode_utf8_all, fold, map, refl, ap, sym, ◌∙◌, append_assoc, append-nil, eqb-true, arith, subst, tests}
 use Rattle.std.proofs.lemmas.Bool.{and_parts, or_parts}
 use Rattle.std.proofs.lemmas.List.{map-append}
@@ -18,12 +18,12 @@ use Rattle.csv_records.specs.Cleaning.{CleanedText, after_character, after_piece
 
 -- ---- characters
 
--- pieces that are characters are written so
+-- pieces that are characters are written as these characters are
 pub each_character : (cs : List ℕ) (s : CleanedText) → fold after_piece s (map visible_part cs) ≡ fold after_character s cs
 each_character [] s = refl
 each_character (c ∷ cs) s = each_character cs (after_character s c)
 
--- no character is harmful where none is replaced
+-- no character is harmful if none is replaced
 pub none_harmful : (cs : List ℕ) → list_any is_replaced cs ≡ false → list_any is_harmful cs ≡ false
 none_harmful [] none = refl
 none_harmful (c ∷ cs) none =
@@ -38,7 +38,7 @@ other c n harmless no_break control = by_test (c == n) refl
     by_test false e = refl
     by_test true e = let same : c ≡ n = eqb-true c n e in absurd (grind (arith, same, harmless, no_break, control))
 
--- ---- what stays
+-- ---- texts that stay
 
 -- the pieces of a text, before any rest, are written as they are
 pub record Stays (kept : Bool) (text : Text) : Type 0 where
@@ -79,7 +79,7 @@ module _ (kept : Bool) where
   unfolding encode
   line_feed s after = rw after (refl, refl)
 
-  -- so is every harmless character
+  -- every harmless character is appended
   appended : (s : CleanedText) (c : ℕ) → is_harmful c ≡ false → s.after_return ≡ false → ((after_character s c).text ≡ s.text ++ encode_utf8 c) × ((after_character s c).after_return ≡ false)
   appended s c harmless after = by_break (c == 0x0A) refl
     where
@@ -158,16 +158,16 @@ module _ (kept : Bool) where
           ∙ ap (λ (ps : List Part). stays.found_as ++ ps) (none kept)
           ∙ append-nil stays.found_as
 
--- so is a field without harmful characters
+-- a field without harmful characters is drawn as it is
 pub harmless_so : (kept : Bool) (field : Text) → IsUtf8 field → list_any is_harmful (chars field) ≡ false → field ≡ cleaned kept field
 harmless_so kept field utf8 none =
     sym (stays_cleaned kept field (subst (Stays kept) (encodes-chars field utf8) (Stays-characters kept (chars field) (scalars-chars field utf8) none)))
 
--- and one of which no character is replaced
+-- so is a field without replaced characters
 pub drawn_so : (kept : Bool) (field : Text) → IsUtf8 field → list_any is_replaced (chars field) ≡ false → field ≡ cleaned kept field
 drawn_so kept field utf8 none = harmless_so kept field utf8 (none_harmful (chars field) none)
 
--- no character of printable ASCII is
+-- printable ASCII isn't replaced
 plain : (c : ℕ) → is_in_range 0x20 0x7E c ≡ true → is_replaced c ≡ false
 plain c printable = grind (arith, tests)
 
@@ -180,6 +180,6 @@ all_plain (c ∷ cs) printable =
 pub none_replaced : (field : Text) → is_printable_ascii field ≡ true → list_any is_replaced (chars field) ≡ false
 none_replaced field printable = ap (list_any is_replaced) (chars-IsAscii field (ascii-printable field printable)) ∙ all_plain field printable
 
--- so it stays
+-- a field of printable ASCII stays as it is
 pub cleaned-printable : (kept : Bool) (field : Text) → is_printable_ascii field ≡ true → cleaned kept field ≡ field
 cleaned-printable kept field printable = sym (drawn_so kept field (IsUtf8-printable field printable) (none_replaced field printable))

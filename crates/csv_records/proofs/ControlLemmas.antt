@@ -1,4 +1,5 @@
--- A cleaned field has no control characters but line feeds, and those of kept sequences; it stays as it is where it is cleaned.
+-- The only control characters of a cleaned field are line feeds, and those of kept sequences. It stays as it is when it
+-- is cleaned again.
 use Rattle.std.proofs.Common.{◌≡◌, ◌⊎◌, inl, inr, ◌==◌, ◌&&◌, ◌||◌, ◌<◌, ◌≤◌, ◌%◌, ℕ, Bool, true, false, List, [], ◌∷◌, ◌++◌, chars, codes, encode_utf8, encode_utf8_all, fold, refl, sym, ap, ◌∙◌, subst, arith, tests, append_assoc, append-nil}
 use Rattle.std.proofs.Math.Utf8.{scalar as scalar_of}
 use Rattle.std.proofs.lemmas.Bool.{and_parts, or_from, or_parts}
@@ -72,7 +73,7 @@ module _ (kept : Bool) where
       subst (IsHarmless kept) (append-nil (encode_utf8 c))
       (Harmless-characters (c ∷ []) (rw scalar refl) (or_from (is_harmful c) false harmless refl))
 
-  -- characters of ASCII that are none of control
+  -- characters of ASCII that aren't control characters, and the line feed, are harmless
   Harmless-ascii : (c : ℕ) → c < 0x7F → (0x20 ≤ c) ⊎ (c ≡ 0x0A) → is_harmful c ≡ false
   Harmless-ascii c below (inl above) = grind (arith, tests)
   Harmless-ascii c below (inr is) = grind (arith, tests)
@@ -101,7 +102,7 @@ module _ (kept : Bool) where
   Harmless-replacement : is_harmful 0xFFFD ≡ false
   Harmless-replacement = refl
 
-  -- a character as it is drawn
+  -- a character as it is drawn is harmless
   Harmless-shown : (c : ℕ) → scalar_of c ≡ true → IsHarmless kept (encode_utf8 (shown c))
   Harmless-shown c scalar = by_test (is_replaced c) refl
     where
@@ -109,7 +110,7 @@ module _ (kept : Bool) where
       by_test true is = Harmless-character 0xFFFD refl Harmless-replacement
       by_test false is = Harmless-character c scalar (rw is refl)
 
-  -- ---- what is written
+  -- ---- texts that are written
 
   after-character : (s : CleanedText) (c : ℕ) → scalar_of c ≡ true → IsHarmless kept s.text → IsHarmless kept (after_character s c).text
   after-character s c scalar before = by_tests ((c == 0x0A) && s.after_return) ((c == 0x0A) || (c == 0x0D)) (c == 0x09)
@@ -130,7 +131,7 @@ module _ (kept : Bool) where
       let both = and_parts (scalar_of c) (all_scalars cs) scalars in
       after-characters cs (after_character s c) both.1 (after-character s c both.0 before)
 
-  -- nothing harmful is visible of such a text
+  -- no harmful character of such a text is visible
   none_visible : (text : Text) → IsHarmless kept text → list_any is_harmful (chars (visible_of kept text)) ≡ false
   none_visible text is = ap (λ (t : Text). list_any is_harmful (chars t)) whole ∙ ap (list_any is_harmful) (chars-encodes is.seen is.scalars) ∙ is.harmless
     where
@@ -188,6 +189,6 @@ module _ (kept : Bool) where
   pub cleaned_once : (field : Text) → IsCleanedOnce kept field
   cleaned_once field utf8 = stays_cleaned kept (cleaned kept field) (cleaned-harmless field utf8).stays
 
-  -- a cleaned field is whole characters
+  -- a cleaned field is UTF-8
   pub cleaned_whole : (field : Text) → IsUtf8 field → IsUtf8 (cleaned kept field)
   cleaned_whole field utf8 = (cleaned-harmless field utf8).utf8

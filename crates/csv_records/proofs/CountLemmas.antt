@@ -1,4 +1,4 @@
--- How many fields a record has, as csv's reader finds them.
+-- The number of fields of a record, as csv's reader finds it.
 use Rattle.std.proofs.Common.{◌≡◌, ◌≢◌, ◌≤◌, ◌⊎◌, inl, inr, ◌+◌, ◌++◌, ◌∷◌, ◌||◌, ◌&&◌, ◌==◌, [], ℕ, zero, suc, Bool, true, false, List, add-zero, ap, arith, length, length-append, map, refl, sym, unwrap_or, ◌∙◌}
 use Rattle.std.specs.Option.{option_map, option_map_or}
 use Rattle.std.specs.Prelude.{Option, Some, None, IfSome, if◌then◌else◌}
@@ -19,23 +19,23 @@ use Rattle.csv_records.specs.declared.counting.State.TheVariants as own
 
 -- ---- one byte
 
--- it ends one field at most
+-- a byte ends at most one field
 pub at_most_one : (ends : Bool) → (if ends then 1 else 0) ≤ 1
 at_most_one true = omega arith
 at_most_one false = omega arith
 
 module _ (cfg : Config) (s : State) (n b : ℕ) (rest : Text) where
-  -- behind it the record goes on
+  -- the record goes on after the byte
   pub goes_on : (next : State × Bool) → Some next ≡ own_step.step cfg s b → count_from cfg s n (b ∷ rest) ≡ count_from cfg next.0 (n + (if next.1 then 1 else 0)) rest
   unfolding count_from
   goes_on next is = ap (count_behind (λ state count. count_from cfg state count rest) n rest) (sym is)
 
-  -- or it ends
+  -- the record ends at the byte
   pub ends_there : None ≡ own_step.step cfg s b → count_from cfg s n (b ∷ rest) ≡ Some (n, rest)
   unfolding count_from
   ends_there is = ap (count_behind (λ state count. count_from cfg state count rest) n rest) (sym is)
 
--- the text's end ends a record that has begun
+-- the end of the text ends a record that has begun
 pub ends_with_text : (cfg : Config) (s : OwnState) (n : ℕ) (text : Text) → length text ≡ 0 → s ≢ own.StartRecord → count_from cfg (state_at s) n text ≡ Some (n, text)
 unfolding count_from
 ends_with_text cfg s n (b ∷ rest) empty begun = absurd (omega (arith, empty))
@@ -52,7 +52,7 @@ none_begun cfg n (b ∷ rest) empty = absurd (omega (arith, empty))
 
 -- ---- a record
 
--- a record's number of fields, and what follows it
+-- the number of fields of a record, and the text after the record
 abbrev count_of : FoundRecord → ℕ × Text
 count_of found = (length found.0, found.2)
 
@@ -76,7 +76,7 @@ counted cfg s fields field (b ∷ rest) = by_action (step cfg s b).1 (λ fields 
     by_action act.Skip more = more fields field ∙ ap (λ (n : ℕ). count_from cfg to n rest) (sym (add-zero (length fields + 1)))
     by_action act.Copy more = more fields (field ++ (b ∷ [])) ∙ ap (λ (n : ℕ). count_from cfg to n rest) (sym (add-zero (length fields + 1)))
 
--- what follows a record that is counted
+-- the text after a record that is counted
 pub behind_counted : (cfg : Config) (text : Text) (found : Option (ℕ × Text)) → found ≡ count_from cfg st.StartRecord 1 text → option_map_or (λ it. it.1) found [] ≡ skip_record cfg text
 behind_counted cfg text found is = ap (λ (o : Option (ℕ × Text)). option_map_or (λ it. it.1) o []) (is ∙ sym (counted cfg st.StartRecord [] [] text)) ∙ by_next (next_record cfg st.StartRecord [] [] text)
   where
@@ -137,7 +137,7 @@ module _ (delimiter : ℕ) (has_quotes : Bool) (b : ℕ) where
   step_between st.InComment = either (b == 10) (st.StartRecord, act.Skip) (st.InComment, act.Skip) (λ is. absurd (cc is)) (λ is. absurd (cc is))
   step_between st.AfterCr = either (b == 10) (st.StartRecord, act.Skip) (start_record cfg b) (λ is. absurd (cc is)) start_record_between
 
-  -- behind a carriage return one reads on as where a record begins
+  -- after a carriage return the reader goes on as at the start of a record
   pub step_alike : step cfg st.AfterCr b ≡ step cfg st.StartRecord b
   step_alike = by_tests (b == 13) (b == 10)
     where
@@ -181,7 +181,7 @@ module _ (delimiter : ℕ) (has_quotes : Bool) where
   all_alike (suc n) s text (inl is) = rw is refl
   all_alike (suc n) s text (inr is) = rw is (ap (records_next (records_from own_cfg n)) (next_alike text))
 
-  -- how many fields each of the next records has
+  -- the number of fields of each of the next n records
   abbrev pub counts_left : ℕ → Text → List ℕ
   counts_left n text = map (λ (fields : List Text). length fields) (records_from own_cfg n st.StartRecord text)
 
@@ -189,7 +189,7 @@ module _ (delimiter : ℕ) (has_quotes : Bool) where
   unfolding records_from
   no_turns text = refl
 
-  -- one record is counted
+  -- the next record is counted
   pub one_counted : (n : ℕ) (text : Text) (count : ℕ) (behind : Text) → Some (count, behind) ≡ count_from own_cfg st.StartRecord 1 text → counts_left (suc n) text ≡ count ∷ counts_left n behind
   unfolding records_from
   one_counted n text count behind is = by_next (next_record own_cfg st.StartRecord [] [] text) (next_between st.StartRecord [] [] text) (counted own_cfg st.StartRecord [] [] text ∙ sym is)
@@ -204,7 +204,7 @@ module _ (delimiter : ℕ) (has_quotes : Bool) where
           let rest : found.2 ≡ behind = ap (λ (o : Option (ℕ × Text)). (unwrap_or o (count, behind)).1) same in
           rw (all_alike n found.1 found.2 between, size, rest) refl
 
-  -- or none is left
+  -- no record is left
   pub none_counted : (n : ℕ) (text : Text) → None ≡ count_from own_cfg st.StartRecord 1 text → counts_left n text ≡ []
   unfolding records_from
   none_counted zero text is = refl

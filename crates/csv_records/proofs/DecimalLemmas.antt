@@ -1,4 +1,4 @@
--- What a column's fields say with one field more.
+-- The marks and numbers of a column with one field more.
 use Rattle.std.proofs.Common.{◌≡◌, ◌&&◌, ◌||◌, Bool, true, false, List, [], ◌∷◌, ◌++◌, ℕ, None, ap, ap₂, fold, map, max, refl, sym, ◌∙◌}
 use Rattle.std.proofs.Math.Nat.{max-zero}
 use Rattle.std.proofs.lemmas.List.{map-append}
@@ -53,7 +53,7 @@ marks_more fields field had made same plain point comma =
 
 -- ---- empty fields
 
--- digits without a mark say nothing of it
+-- digits without a mark leave the use of the mark unchanged
 nothing_of : (mark : DecimalMark) (this : MarkUse) (digits : Text) → halves (byte_of mark) digits ≡ None → this ≡ use_with mark this digits
 nothing_of mark this digits none = rw (none, or_nothing this.is_decided, and_nothing this.is_read, max-zero this.longest) refl
 

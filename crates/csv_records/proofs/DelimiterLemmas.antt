@@ -33,7 +33,7 @@ pub mark_stripped : (text : Bor Text) (o : Option (Bor Text))
 mark_stripped text None none = sym (no_mark text.now none)
 mark_stripped text (Some x) (n, at, is, len) = is ∙ sym (strip_mark text.now (drop n text.now) at.split)
 
--- without its mark a text is an end of the text
+-- a text without its byte-order mark is a suffix of the text
 pub mark-EndsIn : (text : Text) → EndsIn text (strip_bom text)
 unfolding strip_bom
 mark-EndsIn [] = ([], refl)
@@ -47,7 +47,7 @@ mark-EndsIn (a ∷ b ∷ c ∷ rest) = by_bom (is_bom a b c)
 
 -- ---- a delimiter that is named
 
--- what follows a first line that names the delimiter is an end of the text
+-- the text after a first line that names the delimiter is a suffix of the text
 pub named_delimiter-EndsIn : (text rest : Text) (b : ℕ) → named_delimiter text ≡ Some (b, rest) → EndsIn text rest
 named_delimiter-EndsIn text rest b is = by_name (delimiter_in (first_line (strip_bom text))) is
   where

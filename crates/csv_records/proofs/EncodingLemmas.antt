@@ -1,4 +1,4 @@
--- What a decoder of UTF-16 has read, and what it has left.
+-- The characters that a decoder of UTF-16 has read, and the units that it hasn't.
 use Rattle.std.proofs.Common.{◌≡◌, ℕ, ◌+◌, ◌-◌, ◌/◌, ◌%◌, ◌<◌, ◌≤◌, ◌⊎◌, inl, inr, ◌==◌, Bool, true, false, if◌then◌else◌, List, [], ◌∷◌, ◌++◌, Option, Some, None, Ok, Err, map, refl, sym, ap, subst, ◌∙◌, append_assoc, append-nil, arith, get_or, length, encode_utf8_all, encode_utf8}
 use Rattle.std.proofs.lemmas.Bool.{cases_lt}
 use Rattle.std.proofs.lemmas.List.{map-append}
@@ -39,7 +39,7 @@ one c u scalar is = by_size (cases_lt c 0x1_0000)
         by_case (inl below) = inl below
         by_case (inr (from, below)) = inr from
 
--- one of two units is that of a pair of surrogates
+-- a character of two units is that of a pair of surrogates
 pub record IsTwoUnits (c u v : ℕ) : Type 0 where
   pub pair : IsPair u v
   pub same : surrogate_pair_char u v ≡ c
@@ -61,9 +61,9 @@ two c u v scalar is = by_size (cases_lt c 0x1_0000)
             let second : v ≡ 0xDC00 + (c - 0x1_0000) % 0x400 = cc both in
             record { pair = (omega arith, omega arith, omega arith, omega arith); same = omega arith }
 
--- ---- what is left
+-- ---- the units ahead
 
--- the units that are left behind what was looked at
+-- the units that are left after the unit that was peeked at
 abbrev pub units_ahead : Option (Option ℕ) → List ℕ → List ℕ
 units_ahead None left = left
 units_ahead (Some None) left = []
@@ -102,15 +102,15 @@ lone u us (inl below) = utf16_chars_lone u us (λ pair. omega (arith, pair.0)) �
 lone u us (inr from) = utf16_chars_lone u us (λ pair. omega (arith, pair.1)) ∙ ap (λ (o : Option ℕ). o ∷ utf16_chars us) (lone_unit_char_high u from)
 
 module _ (s t : DecodeUtf16 (List ℕ)) where
-  -- the first unit was taken
+  -- the call took the first unit
   taken_first : (m : Ahead (List ℕ) ℕ) (u : ℕ) → peekable_steps Gives (decode_utf16_units s) (Some u) m → units_left s ≡ u ∷ peekable_source m
   taken_first m u took = grind (arith, taken)
 
-  -- and no other one
+  -- the call took no other unit
   taken_alone : (m : Ahead (List ℕ) ℕ) → peekable_peeked m ≡ None → decode_utf16_units t ≡ m → units_left t ≡ peekable_source m
   taken_alone m none same = grind arith
 
-  -- or the next one was looked at
+  -- the call took the first unit and peeked at the next one
   taken_and_looked : (m : Ahead (List ℕ) ℕ) → peekable_peeked m ≡ None → PeeksNext Gives m (decode_utf16_units t) → units_left t ≡ peekable_source m
   taken_and_looked m none (o, gives, peeked) = grind (arith, looked_at)
 
@@ -160,14 +160,14 @@ module _ (s t : DecodeUtf16 (List ℕ)) where
 
 -- ---- the whole input
 
--- this text was decoded of the units, and others are left
+-- `text` was decoded from the first units, and `left` are left
 pub record HasDecoded (units left : List ℕ) (text : Text) : Type 0 where
   pub characters : List ℕ
   pub spelled : text ≡ encode_utf8_all characters
   pub others : utf16_chars units ≡ map Some characters ++ utf16_chars left
 
 module _ (units : List ℕ) (s t : DecodeUtf16 (List ℕ)) (text : Text) (decoded : HasDecoded units (units_left s) text) where
-  -- one more character
+  -- one more character was decoded
   pub more_decoded : (c : ℕ) → IsScalar c → decode_utf16_steps Gives s (Some (Ok c)) t → HasDecoded units (units_left t) (text ++ encode_utf8 c)
   more_decoded c scalar steps = record {
     characters = decoded.characters ++ c ∷ [];
@@ -182,7 +182,7 @@ module _ (units : List ℕ) (s t : DecodeUtf16 (List ℕ)) (text : Text) (decode
         ∙ ap (λ (x : List (Option ℕ)). x ++ utf16_chars (units_left t)) (sym (map-append Some decoded.characters (c ∷ [])));
   }
 
-  -- a surrogate without a partner is the first
+  -- the first surrogate without a partner comes next
   pub first_unpaired : (above : ℕ) (e : DecodeUtf16Error) (odd : List (Option ℕ)) → decode_utf16_steps Gives s (Some (Err e)) t → IsFirstUnpaired (utf16_chars units ++ odd) above (line_number above text)
   first_unpaired above e odd steps = record {
     before = decoded.characters;
@@ -193,7 +193,7 @@ module _ (units : List ℕ) (s t : DecodeUtf16 (List ℕ)) (text : Text) (decode
     numbered = ap (line_number above) decoded.spelled;
   }
 
-  -- all units were read
+  -- all units were decoded
   all_decoded : decode_utf16_steps Gives s None t → utf16_chars units ≡ map Some decoded.characters
   all_decoded steps =
       decoded.others
@@ -201,7 +201,7 @@ module _ (units : List ℕ) (s t : DecodeUtf16 (List ℕ)) (text : Text) (decode
       ∙ ap (λ (x : List (Option ℕ)). map Some decoded.characters ++ x) utf16_chars-nil
       ∙ append-nil (map Some decoded.characters)
 
-  -- and nothing is behind them
+  -- no odd byte follows the units
   pub whole : decode_utf16_steps Gives s None t → (bytes : Text) → ¬ (length bytes % 2 ≡ 1) → AreCharactersOf (utf16_chars units ++ odd_byte bytes) text
   whole steps bytes even = record {
     characters = decoded.characters;
@@ -212,7 +212,7 @@ module _ (units : List ℕ) (s t : DecodeUtf16 (List ℕ)) (text : Text) (decode
       is_even : (length bytes % 2 == 0) ≡ true
       is_even = grind (arith, even)
 
-  -- or an odd byte
+  -- an odd byte follows the units
   pub odd_behind : (above : ℕ) → decode_utf16_steps Gives s None t → (bytes : Text) → length bytes % 2 ≡ 1 → IsFirstUnpaired (utf16_chars units ++ odd_byte bytes) above (line_number above text)
   odd_behind above steps bytes odd = record {
     before = decoded.characters;

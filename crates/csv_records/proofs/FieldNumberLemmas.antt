@@ -1,4 +1,4 @@
--- What a field says as a number: fields of digits and marks alone, and digits with one mark at most.
+-- A field as a number: fields of digits and marks alone, and digits with one mark at most.
 use Rattle.std.proofs.Common.{◌≡◌, ◌&&◌, ◌||◌, ◌==◌, ◌+◌, ◌-◌, ◌<◌, ℕ, suc, Bool, true, false, nat_lt, List, [], ◌∷◌, ◌++◌, append-nil, Option, None, Some, not, option_map, drop, take, encode_utf8_all, get_or, length, refl, sym, ap, ap₂, ◌∙◌, subst, arith, length-append, rules, tests}
 use Rattle.std.proofs.Math.Seq.{take-append_seam}
 use Rattle.std.proofs.lemmas.Bool.{and_from, and_parts, eqb-true}
@@ -51,7 +51,7 @@ digit_inner c is = rw is refl
 inner_written : (c : ℕ) → is_inner c ≡ true → is_written c ≡ true
 inner_written c is = rw is refl
 
--- ---- where no element passes, nothing is taken off
+-- ---- if no element passes, nothing is taken off
 
 module _ (q p : ℕ → Bool) (others : (c : ℕ) → q c ≡ true → p c ≡ false) where
   none_passes : (text : Text) → list_all q text ≡ true → prefix_len p text ≡ 0
@@ -70,7 +70,7 @@ module _ (q p : ℕ → Bool) (others : (c : ℕ) → q c ≡ true → p c ≡ f
           last : list_all q (b ∷ []) ≡ true
           last = (and_parts (list_all q bs) (list_all q (b ∷ [])) (sym (list_all-append q bs (b ∷ [])) ∙ all)).1
 
--- ---- such bytes are their own characters, and no space stands around them
+-- ---- such bytes are their own characters, and no space surrounds them
 
 module _ (text : Text) (all : list_all is_written text ≡ true) where
   ascii : IsAscii text
@@ -222,7 +222,7 @@ module _ (field front digits back : Text) (same_front : front ≡ front_of (trim
 
 -- ---- a mark in digits
 
--- one that isn't among them is nowhere
+-- a mark isn't found if no byte can be one
 no_halves : (q : ℕ → Bool) (mark : ℕ) → q mark ≡ false → (text : Text) → list_all q text ≡ true → halves mark text ≡ None
 no_halves q mark other text all = ap (option_map (λ at. (take at text, drop (at + 1) text))) (by_place (position (λ b. b == mark) text) refl)
   where
@@ -233,7 +233,7 @@ no_halves q mark other text all = ap (option_map (λ at. (take at text, drop (at
         let none : q (get_or text at 0) ≡ false = ap q (eqb-true (get_or text at 0) mark known.1) ∙ other in
         absurd (cc (list_all_at q text at 0 known.0 none, all))
 
--- one after digits is found
+-- a mark after digits is found
 found_halves : (mark : ℕ) → is_ascii_digit mark ≡ false → (whole rest : Text) → AreDigits whole → halves mark (whole ++ mark ∷ rest) ≡ Some (whole, rest)
 found_halves mark other whole rest all = rw (place, take-append_seam whole (mark ∷ rest), after whole) refl
   where
@@ -322,7 +322,7 @@ module _ (digits : Text) (is_number : Bool) (is : is_number ≡ (not (length dig
       let number : is_number ≡ is_figure digits = is ∙ rw (some, decimal) (and_so (not (is_name digits)) true refl) in
       made_of point comma number (number ∙ and_so (is_figure digits) (is_decimal digits) decimal) same_point same_comma
 
-  -- what follows the first byte, as a pattern takes it
+  -- the bytes after the first one, as a slice pattern gives them
   taken : AreDigits (take (length rest - 1) (drop 1 rest)) → AreDigits (drop 1 rest)
   taken = subst AreDigits (all rest)
     where

@@ -1,4 +1,4 @@
--- Spaces around a field, and its figure: where its first digit or decimal mark stands, and where its last one ends.
+-- Spaces around a field, and its figure, which goes from its first digit or decimal mark to its last one.
 use Rattle.std.proofs.Common.{◌≡◌, ◌⊎◌, inl, inr, ◌<◌, ◌≤◌, ◌+◌, ◌-◌, ◌==◌, ◌||◌, ℕ, zero, suc, Bool, true, false, List, [], ◌∷◌, ◌++◌, Option, IsUtf8, chars, take, get_or, length, length-append, unwrap_or, refl, sym, ap, ◌∙◌, subst, arith, rules, tests}
 use Rattle.std.proofs.lemmas.Bool.{and_from, and_parts, cases_lt}
 use Rattle.std.proofs.lemmas.List.{reverse-append, reverse-reverse, take-append-le, take_all}
@@ -19,20 +19,20 @@ module _ (p : ℕ → Bool) (xs : List ℕ) (c : ℕ) where
   reversed : reverse (xs ++ c ∷ []) ≡ c ∷ reverse xs
   reversed = reverse-append xs (c ∷ [])
 
-  -- an element that passes is taken off
+  -- a last element that passes is taken off
   pub to_other-passes : p c ≡ true → to_other p (xs ++ c ∷ []) ≡ to_other p xs
   to_other-passes is =
       let one : suffix_len p (xs ++ c ∷ []) ≡ 1 + suffix_len p xs = ap (prefix_len p) reversed ∙ (rw is refl) in
       let less : length (xs ++ c ∷ []) - suffix_len p (xs ++ c ∷ []) ≡ length xs - suffix_len p xs = omega (arith, one, length-append xs (c ∷ [])) in
       ap (λ (n : ℕ). take n (xs ++ c ∷ [])) less ∙ take-append-le (length xs - suffix_len p xs) xs (c ∷ []) (omega arith)
 
-  -- at another one all stays
+  -- a last element that doesn't pass stays, and all before it
   pub to_other-stops : p c ≡ false → to_other p (xs ++ c ∷ []) ≡ xs ++ c ∷ []
   to_other-stops is =
       let none : suffix_len p (xs ++ c ∷ []) ≡ 0 = ap (prefix_len p) reversed ∙ (rw is refl) in
       ap (λ (n : ℕ). take (length (xs ++ c ∷ []) - n) (xs ++ c ∷ [])) none ∙ take_all (length (xs ++ c ∷ []) - 0) (xs ++ c ∷ []) (omega arith)
 
--- from the end back
+-- induction on a list from its end
 pub by_end : (P : List ℕ → Type 0) → P [] → ((xs : List ℕ) (c : ℕ) → P xs → P (xs ++ c ∷ [])) → (xs : List ℕ) → P xs
 by_end P none more xs = subst P (reverse-reverse xs) (over (reverse xs))
   where
@@ -40,7 +40,7 @@ by_end P none more xs = subst P (reverse-reverse xs) (over (reverse xs))
     over [] = none
     over (y ∷ ys) = subst P (sym (reverse-append (y ∷ []) ys)) (more (reverse ys) y (over ys))
 
--- what stands before the last character is text
+-- a list of characters stays one when it is cut
 pub scalars-take : (n : ℕ) (cs : List ℕ) → all_scalars cs ≡ true → all_scalars (take n cs) ≡ true
 scalars-take zero cs is = refl
 scalars-take (suc n) [] is = refl
@@ -49,12 +49,12 @@ scalars-take (suc n) (c ∷ cs) is = let parts = and_parts _ (all_scalars cs) is
 pub utf8-without_last : (text : Text) → IsUtf8 text → IsUtf8 (without_last text)
 utf8-without_last text utf8 = (take (length (chars text) - 1) (chars text), (scalars-take (length (chars text) - 1) (chars text) (scalars-chars text utf8), refl))
 
--- ---- where a figure begins and ends
+-- ---- the ends of a figure
 
 inner_small : (b : ℕ) → is_outer b ≡ false → b < 128
 inner_small b is = search (rules, tests)
 
--- the place of the first digit or mark, or the end
+-- the place of the first digit or mark, or the end of the text
 pub start_at : (text : Text) (place : Option ℕ) → place ≡ position is_inner text → unwrap_or place (length text) ≡ prefix_len is_outer text
 start_at text place same = rw same (by_size (cases_lt (prefix_len is_outer text) (length text)))
   where
@@ -72,7 +72,7 @@ start_boundary text utf8 = by_size (cases_lt (prefix_len is_outer text) (length 
         let same : length text ≡ prefix_len is_outer text = omega (arith, none, most) in
         subst (IsCharBoundary text) same (IsCharBoundary-end text)
 
--- behind a digit or mark, or at the start
+-- a character ends after a digit or mark, and at the start of the text
 pub boundary_behind : (text : Text) (end : ℕ) → IsUtf8 text → end ≤ length text → (0 < end → is_outer (get_or text (end - 1) 0) ≡ false) → IsCharBoundary text end
 boundary_behind text zero utf8 within inner = IsCharBoundary-start text utf8
 boundary_behind text (suc n) utf8 within inner =
@@ -82,11 +82,11 @@ boundary_behind text (suc n) utf8 within inner =
 
 -- ---- single characters, and codes
 
--- a character with nothing behind it stands alone
+-- if nothing follows a character of a text, the text is that character
 pub stands_alone : (p : ℕ → Bool) (text rest : Text) (c : ℕ) → chars text ≡ c ∷ chars rest → length rest ≡ 0 → p c ≡ is_one p (chars text)
 stands_alone p text rest c same none = sym (ap (is_one p) (same ∙ ap (λ (cs : List ℕ). c ∷ cs) (chars-none rest none)))
 
--- one of these words, where all of them have P, has P
+-- a word of a list has the property that all words of the list have
 pub among-all : (P : Text → Bool) (words : List Text) (text : Text) → list_all P words ≡ true → is_among words text ≡ true → P text ≡ true
 among-all P [] text all is = absurd (cc is)
 among-all P (word ∷ words) text all is =
@@ -97,7 +97,7 @@ among-all P (word ∷ words) text all is =
     by_first true same one others found = let equal : text ≡ word = (bytes_eq-Decides text word).0 same in subst (λ t. P t ≡ true) (sym equal) one
     by_first false same one others found = others found
 
--- what is so of all codes is so of a code
+-- a code has the property that all codes have
 no_code : (P : Text → Bool) (text : Text) → list_all P currency_codes ≡ true → P text ≡ false → false ≡ is_code text
 no_code P text all none = by_code (is_code text) refl
   where

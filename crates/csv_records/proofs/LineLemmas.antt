@@ -26,7 +26,7 @@ boundary_before text = by_place (cases_lt (line_len text) (length text))
         let whole : length text ≡ line_len text = omega arith in
         subst (λ (n : ℕ). IsCharBoundary text n) whole (IsCharBoundary-end text)
 
--- and behind a line end
+-- a text may be cut after a line end
 pub boundary_behind : (text : Text) → IsUtf8 text → IsCharBoundary text (end_len text)
 boundary_behind [] utf8 = IsCharBoundary-end []
 boundary_behind (a ∷ []) utf8 = by_end (ends_line a)
@@ -56,13 +56,13 @@ line-EndsIn text =
     let rest = drop (line_len text) text in
     EndsIn-trans text rest (below_line text) (drop-EndsIn (line_len text) text) (drop-EndsIn (end_len rest) rest)
 
--- one line less is left
+-- one line less is left to skip
 pub one_line_less : (count done : ℕ) (text : Text) → done < count → below_lines (count - done) text ≡ below_lines (count - (done + 1)) (below_line text)
 one_line_less count done text more =
     let left : count - done ≡ suc (count - (done + 1)) = omega arith in
     rw left refl
 
--- no text has no lines
+-- nothing is below the lines of an empty text
 pub no_lines_left : (count : ℕ) (text : Text) → (length text == 0) ≡ true → below_lines count text ≡ text
 no_lines_left count (b ∷ text) is = absurd (omega (arith, eqb-true (suc (length text)) 0 is))
 no_lines_left zero [] is = refl
@@ -70,7 +70,7 @@ no_lines_left (suc count) [] is = no_lines_left count [] is
 
 -- ---- lines that are left out
 
--- what follows a place and the line end there
+-- the text after a place and the line end there
 abbrev below_at : ℕ → Text → Text
 below_at n text = drop (end_len (drop n text)) (drop n text)
 

@@ -1,4 +1,4 @@
--- Records that have more fields than the first one.
+-- Records that have more fields than the first record.
 use Rattle.std.proofs.Common.{◌≡◌, ◌≢◌, ◌-◌, ◌∙◌, ℕ, Bool, List, None, Some, ap, length, sym, take}
 use Rattle.std.specs.List.{position}
 use Rattle.std.specs.Option.{option_map}
@@ -13,7 +13,7 @@ use Rattle.csv_records.specs.declared.options.InputOptions.{InputOptions}
 use Rattle.csv_records.proofs.ReadTextLemmas.{plain_parted, plain_quotes, plain_longer}
 
 module _ (options : InputOptions) (text : Text) (other : options.delimiter ≢ Spaces) where
-  -- the line of a record, by the byte between fields and what holds the records
+  -- the line of a record, given the delimiter and the part of the text with its records
   abbrev pub line : ℕ → Text → Bool → ℕ → ℕ
   line delimiter rest has_quotes before =
       line_number options.skip (take (length text - length (skip_records (config_for delimiter has_quotes) before (strip_bom rest))) text)

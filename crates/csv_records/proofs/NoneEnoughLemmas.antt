@@ -1,4 +1,4 @@
--- Where a beginning is not enough, whatever its records are.
+-- Beginnings that aren't enough, whatever their records are.
 use Rattle.std.proofs.Common.{All, ◌≡◌, ◌≢◌, ◌<◌, ◌≤◌, ℕ, List, [], ◌∷◌, Some, None, Option, MatchOption, map, ◌++◌, length, sym, refl, ap, ap₂, ◌∙◌, subst, arith}
 use Rattle.std.proofs.lemmas.List.Elements.{All-head, All-tail}
 use Rattle.comfy_parts.specs.Text.{Text}
@@ -24,7 +24,7 @@ use Rattle.csv_records.specs.declared.options.InputOptions.{InputOptions}
 
 -- ---- texts
 
--- characters alone are read, so none is no character
+-- no `None` is in a list of characters alone
 all_paired : (all before : List ℕ) (after : List (Option ℕ)) → map Some all ≡ map Some before ++ (None ∷ after) → ⊥
 all_paired [] [] after is = cc is
 all_paired [] (b ∷ before) after is = cc is
@@ -33,7 +33,7 @@ all_paired (c ∷ all) (b ∷ before) after is =
     let rest : map Some all ≡ map Some before ++ (None ∷ after) = cc is in
     all_paired all before after rest
 
--- an input that has a text isn't refused, but for want of memory
+-- an input that has a text is refused only for lack of memory
 refused_in : (encoding : Encoding) (skip : ℕ) (input text : Text) (e : DecodeError) → e ≢ decode.OutOfMemory → IsRefusedIn encoding skip input e → IsDecoded encoding skip input text → ⊥
 refused_in Utf8 skip input text (decode.NotUtf8 line may_be) other why is = why.no_text is.0
 refused_in Utf8 skip input text (decode.NotUtf16 line) other why is = why
@@ -55,7 +55,7 @@ without_text options input text e other why is =
 
 -- ---- records
 
--- where all records are read, the one that is read behind some of them is one of them
+-- a record that is read after some records is one of all records
 read_next : (config : Config) (state : State) (input : Text) (before all : List (List Text)) (end : State) (rest : Text) (next : Read) → Reached config state input before end rest → AreRecords config state input all → next_record config end [] [] rest ≡ Some next
     → All AllText all → AllText next.0
 unfolding Reached
@@ -71,7 +71,7 @@ read_next config state input (b ∷ before) (own ∷ all) end rest next (p, foun
     let same : q ≡ p = cc (found, found') in
     read_next config p.1 p.2 before all end rest next more (subst (λ (r : Read). AreRecords config r.1 r.2 all) same (last, none, more', no_more)) is (All-tail AllText own all texts)
 
--- a text that has records isn't refused, but for want of memory
+-- a text that has records is refused only for lack of memory
 pub without_records : (options : InputOptions) (text : Text) (e : RecordsError) (all : List (List Text)) → e ≢ records.OutOfMemory → IsTextWithoutRecords options text e → AreRecordsIn options text all → ⊥
 without_records options text (records.Unclosed line) all other why are = are.is_closed why.has_quotes why.is_unclosed.is_open
 without_records options text records.SplitCharacter all other why are = why.is_no_text (read_next _ _ _ why.before all why.state why.rest why.next why.reached are.are_records.all why.is_next are.are_records.are_text)

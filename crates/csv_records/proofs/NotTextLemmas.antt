@@ -1,4 +1,4 @@
--- The first byte that passes a test, by memchr and by its place in a list.
+-- The first byte that passes a test, as memchr finds it and as its position in a list.
 use Rattle.std.proofs.Common.{◌≡◌, ◌<◌, ℕ, Bool, true, false, Option, Some, None, arith, length, nat_lt, refl, tests}
 use Rattle.std.proofs.lemmas.List.Sums.{position_or_len_is}
 use Rattle.std.specs.List.{position, position_or_len}

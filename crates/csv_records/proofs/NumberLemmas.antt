@@ -15,7 +15,7 @@ use Rattle.csv_records.specs.Number.{are_groups, ends, is_currency, is_group, is
 
 -- ---- currencies
 
--- of ASCII the dollar alone is one
+-- the dollar is the only currency symbol of ASCII
 pub ascii_currency : (c : ℕ) → c < 128 → is_currency c ≡ (c == 0x24)
 unfolding tables general_category_stepped
 ascii_currency c small =
@@ -27,7 +27,7 @@ pub chars-none : (text : Text) → length text ≡ 0 → chars text ≡ []
 chars-none [] none = chars-nil
 chars-none (b ∷ bs) none = absurd (omega (arith, none))
 
--- the last character is the one that stands last
+-- the last character of a list with one more is that one
 ends-last : (p : ℕ → Bool) (cs : List ℕ) (c : ℕ) → ends p (cs ++ c ∷ []) ≡ p c
 ends-last p [] c = refl
 ends-last p (d ∷ []) c = refl
@@ -37,7 +37,7 @@ module _ (text rest : Text) (c : ℕ) (utf8 : IsUtf8 text) (rest_utf8 : IsUtf8 r
   pub behind_first : text ≡ encode_utf8 c ++ rest → rest ≡ without_first text
   behind_first splits = sym (encodes-chars rest rest_utf8) ∙ sym (ap (λ (cs : List ℕ). encode_utf8_all (drop 1 cs)) (chars_past_char text rest c utf8 splits))
 
-  -- the last character by itself
+  -- the last character alone is UTF-8
   last_utf8 : text ≡ rest ++ encode_utf8 c → IsUtf8 (encode_utf8 c)
   last_utf8 splits =
       let front : take (length rest) text ≡ rest = ap (take (length rest)) splits ∙ take-append_seam rest (encode_utf8 c) in
@@ -63,7 +63,7 @@ module _ (text rest : Text) (c : ℕ) (utf8 : IsUtf8 text) (rest_utf8 : IsUtf8 r
 
 -- ---- digits in groups
 
--- a walk has so many digits of a group, and these pieces are to come: the rest of that group, and the groups behind it
+-- A walk has seen `count` digits of a group. The pieces to come are the rest of this group, and the groups after it.
 abbrev pub continues : ℕ → Bool → ℕ → List (List ℕ) → Bool
 continues size is_first count [] = false
 continues size is_first count (piece ∷ others) = (is_group_len size is_first (count + length piece) && list_all is_ascii_digit piece) && list_all (is_group size false) others
@@ -86,7 +86,7 @@ module _ (size mark : ℕ) where
       by_test false is more =
           record { first = c ∷ more.first; others = more.others; are = slice_split-cons_no (λ x. x == mark) c cs is ∙ ap (onto_first c) more.are }
 
-  -- what is to come where no digit of a group was seen
+  -- before any digit of a group, the pieces to come are all its groups
   all_continue : (is_first : Bool) (first : List ℕ) (others : List (List ℕ)) → continues size is_first 0 (first ∷ others) ≡ is_group size is_first first && list_all (is_group size false) others
   all_continue is_first first others =
       let none : 0 + length first ≡ length first = omega arith in
@@ -102,7 +102,7 @@ module _ (size mark : ℕ) where
       let p = pieces_of cs in
       ap (list_all (is_group size false)) p.are ∙ sym (all_continue false p.first p.others) ∙ ap (continues size false 0) (sym p.are)
 
-  -- behind a mark
+  -- after a mark
   past_mark : (is_first : Bool) (count c : ℕ) (cs : List ℕ) → (c == mark) ≡ true → continues size is_first count (pieces (c ∷ cs)) ≡ is_group_len size is_first count && continues size false 0 (pieces cs)
   past_mark is_first count c cs is =
       let none : count + 0 ≡ count = omega arith in
@@ -114,7 +114,7 @@ module _ (size mark : ℕ) where
       by_len false = refl
       by_len true = others_continue cs
 
-  -- behind another character
+  -- after another character
   past_other : (is_first : Bool) (count c : ℕ) (cs : List ℕ) → (c == mark) ≡ false → continues size is_first count (pieces (c ∷ cs)) ≡ is_ascii_digit c && continues size is_first (count + 1) (pieces cs)
   past_other is_first count c cs is =
       let p = pieces_of cs in
@@ -140,7 +140,7 @@ module _ (size mark : ℕ) where
       by_len false = refl
   too_long false count (p ∷ ps) more = let none : ((count + length p) == size) ≡ false = grind (arith, more) in rw none refl
 
-  -- a walk over a text has so many digits of a group before the rest of it
+  -- a walk over a text has seen `count` digits of a group, and `rest` follows them
   pub record IsWalked (text rest : Text) (is_first : Bool) (count : ℕ) : Type 0 where
     pub utf8 : IsUtf8 rest
     pub value : is_grouped size mark text ≡ continues size is_first count (pieces (chars rest))

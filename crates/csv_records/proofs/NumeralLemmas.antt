@@ -1,4 +1,4 @@
--- What `parse` reads of a word that is a number.
+-- The number that `parse` gives for a word.
 use Rattle.std.proofs.Common.{◌≡◌, ℕ, ◌<◌, ◌^◌, Bool, true, false, None, Result, Ok, Err, refl, rules, tests, length}
 use Rattle.std.specs.Prelude.{◌&&◌, nat_lt}
 use Rattle.std.specs.Char.{is_ascii_digit}
@@ -25,11 +25,11 @@ numeral_or_none bits ds (Err e) h =
     (not_all (list_all is_ascii_digit ds) (nat_lt 0 (length ds)) (nat_lt (digits_value 10 ds) (2 ^ bits)) (λ all some small. h ((search (rules, tests), digits.to ds all), search (rules, tests))))
 
 module _ (bits : ℕ) (word : Text) where
-  -- a text with other characters is no number
+  -- a word with other characters is no number
   pub other : list_all is_ascii_digit word ≡ false → None ≡ number_for bits word
   other h = none_where (is_numeral bits word) (digits_value 10 word) (search (rules, tests))
 
-  -- of digits, `parse` gives the number where it has so many bits
+  -- `parse` gives the number of digits if it has at most `bits` bits
   pub parsed : {E : Type 0} (r : Result ℕ E) → ParsesUnsigned bits 10 word r → list_all is_ascii_digit word ≡ true → result_ok r ≡ number_for bits word
   parsed {E} (Ok n) h all =
       let e = parse_digits digits {E = E} bits word (Ok n) h all in
@@ -38,6 +38,6 @@ module _ (bits : ℕ) (word : Text) where
       let none = parse_digits digits {E = E} bits word (Err e) h all in
       none_where (is_numeral bits word) (digits_value 10 word) (search (rules, tests))
 
-  -- of any word, it gives the number after a plus
+  -- for any word, `parse` gives the number after an optional plus
   pub read : {E : Type 0} (r : Result ℕ E) → ParsesUnsigned bits 10 word r → result_ok r ≡ number_for bits (without_leading_plus word)
   read r h = numeral_or_none bits (without_leading_plus word) r h

@@ -1,4 +1,4 @@
--- An input has one text by the same options, and a text one list of records.
+-- An input has only one text for the same options, and a text only one list of records.
 use Rattle.std.proofs.Common.{◌≡◌, ℕ, List, [], ◌∷◌, Some, None, map, sym, refl, ap, ap₂, ◌∙◌, subst}
 use Rattle.std.specs.Str.{encode_utf8_all}
 use Rattle.comfy_parts.specs.Text.{Text}
@@ -16,7 +16,7 @@ use Rattle.csv_records.specs.declared.options.InputOptions.{InputOptions}
 
 -- ---- records
 
--- what is read next is one record, so all that are read are one list
+-- only one record can be read next, so there is only one list of records
 pub records_are_one : (config : Config) (state : State) (input : Text) (records others : List (List Text)) → AreRecords config state input records → AreRecords config state input others → records ≡ others
 unfolding Reached
 records_are_one config state input [] [] first second = refl

@@ -1,4 +1,4 @@
--- The piece at a text's front: an SGR sequence, which is the same among bytes and among characters, or a character.
+-- The piece at the front of a text: a character, or an SGR sequence, which is the same in bytes and in characters.
 use Rattle.std.proofs.Common.{◌≡◌, ◌⊎◌, inl, inr, ◌<◌, ◌+◌, ℕ, Bool, true, false, [], ◌∷◌, ◌++◌, chars, encode_utf8, encode_utf8_all, length, map, take, drop, sym, ap, ap₂, ◌∙◌, arith, tests, append_assoc, length-append}
 use Rattle.std.proofs.lemmas.Bool.{and_parts}
 use Rattle.std.proofs.lemmas.List.{take-append-le, take_all}
@@ -22,7 +22,7 @@ code-IsAscii (c ∷ cs) all =
     let both = and_parts (is_parameter c) (list_all is_parameter cs) all in
     IsAscii-cons c cs (parameter_below c both.0) (code-IsAscii cs both.1)
 
--- the sequence of some parameters
+-- the sequence with these parameters
 abbrev pub sequence_of : Text → Text
 sequence_of code = 0x1B ∷ 0x5B ∷ (code ++ (0x6D ∷ []))
 
@@ -32,7 +32,7 @@ sequence-IsAscii code all =
     (IsAscii-cons 0x5B (code ++ (0x6D ∷ [])) (omega arith)
     (IsAscii-append code (0x6D ∷ []) (code-IsAscii code all) (IsAscii-cons 0x6D [] (omega arith) IsAscii-nil)))
 
--- what follows a sequence, apart
+-- the text after a sequence, separated from it
 pub apart : (code rest : Text) → 0x1B ∷ 0x5B ∷ (code ++ (0x6D ∷ rest)) ≡ sequence_of code ++ rest
 apart code rest = ap (λ (xs : Text). 0x1B ∷ 0x5B ∷ xs) (sym (append_assoc code (0x6D ∷ []) rest))
 
@@ -58,7 +58,7 @@ sequence_first text utf8 some = by_front (front_of text)
         ∙ parts-sequence s.code (chars s.rest) s.parameters
         ∙ ap₂ (λ (xs ys : Text). sequence_part xs ∷ parts (chars ys)) (sym taken) (sym (past_sequence text s (sequence_len text) len))
 
--- where the bytes begin with no sequence, neither do the characters
+-- if the bytes don't begin with a sequence, neither do the characters
 none_among_characters : (text : Text) → IsUtf8 text → sequence_len text ≡ 0 → begins_with_sequence (chars text) ≡ false
 none_among_characters text utf8 none = by_front (front_of (chars text))
   where
@@ -72,7 +72,7 @@ none_among_characters text utf8 none = by_front (front_of (chars text))
         let len = ap sequence_len bytes ∙ sequence_len-sequence s.code (encode_utf8_all s.rest) s.parameters in
         absurd (omega (arith, len, none))
 
--- else a character is
+-- otherwise a character is the first part
 character_first : (text rest : Text) (c : ℕ) → IsUtf8 text → sequence_len text ≡ 0 → text ≡ encode_utf8 c ++ rest → parts (chars text) ≡ visible_part c ∷ parts (chars rest)
 character_first text rest c utf8 none is =
     let found = chars_past_char text rest c utf8 is in

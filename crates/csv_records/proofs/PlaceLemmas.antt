@@ -1,4 +1,4 @@
--- One more record behind others.
+-- One more record after others.
 use Rattle.std.proofs.Common.{◌≡◌, ◌<◌, ◌≤◌, ◌+◌, ◌-◌, ◌++◌, ◌∷◌, [], ℕ, zero, suc, All, List, Some, None, unwrap_or, zero-add, ap, ap₂, arith, drop, length, map, refl, sym, take, ◌∙◌}
 use Rattle.std.proofs.Math.Seq.{drop-append_seam, take-length}
 use Rattle.std.proofs.lemmas.List.{drop-append-le, length-append, length-drop, length-take-le, map-append, take-append-le}
@@ -9,7 +9,7 @@ use Rattle.csv_records.specs.Places.{IsWithin, fields_at}
 use Rattle.csv_records.specs.declared.records.Place.{Place}
 
 module _ (fields more : List Text) where
-  -- a record keeps its fields
+  -- a record keeps its fields when fields are added
   kept : (place : Place) → IsWithin fields place → fields_at (fields ++ more) place ≡ fields_at fields place
   kept place within =
       let start : place.start ≤ length fields = omega (arith, within.0, within.1) in
@@ -23,23 +23,23 @@ module _ (fields more : List Text) where
   abbrev pub last_place : Place
   last_place = record { start = length fields; end = length (fields ++ more) }
 
-  -- and one more has those that were added
+  -- one more record has the fields that were added
   pub one_more : (places : List Place) → All (IsWithin fields) places → map (fields_at (fields ++ more)) (places ++ last_place ∷ []) ≡ map (fields_at fields) places ++ more ∷ []
   one_more places within =
       let own : length (fields ++ more) - length fields ≡ length more = omega (arith, length-append fields more) in
       let last : fields_at (fields ++ more) last_place ≡ more = ap₂ take own (drop-append_seam fields more) ∙ take-length more in
       map-append (fields_at (fields ++ more)) places (last_place ∷ []) ∙ ap₂ (λ xs x. xs ++ x ∷ []) (all_kept places within) last
 
--- ---- going over a record
+-- ---- a walk over a record
 
--- one more of its fields
+-- one more field of the record is taken
 pub one_taken : (fields : List Text) (i : ℕ) (field : Text) → field_at fields i ≡ Some field → take (suc i) fields ≡ take i fields ++ field ∷ []
 unfolding field_at
 one_taken [] i field is = absurd (cc is)
 one_taken (f ∷ fs) zero field is = ap (λ (x : Text). x ∷ []) (ap (λ o. unwrap_or o field) is)
 one_taken (f ∷ fs) (suc i) field is = ap (λ xs. f ∷ xs) (one_taken fs i field is)
 
--- and none are left
+-- no field of the record is left
 pub all_taken : (fields : List Text) (i : ℕ) → field_at fields i ≡ None → take i fields ≡ fields
 unfolding field_at
 all_taken [] zero is = refl
@@ -47,7 +47,7 @@ all_taken [] (suc i) is = refl
 all_taken (f ∷ fs) zero is = absurd (cc is)
 all_taken (f ∷ fs) (suc i) is = ap (λ xs. f ∷ xs) (all_taken fs i is)
 
--- what is left from a field on
+-- the fields from a position on
 from_here : (fields : List Text) (i : ℕ) (field : Text) → field_at fields i ≡ Some field → drop i fields ≡ field ∷ drop (suc i) fields
 unfolding field_at
 from_here [] i field is = absurd (cc is)
@@ -100,7 +100,7 @@ texts-drop zero fields texts = texts
 texts-drop (suc n) [] texts = tt
 texts-drop (suc n) (f ∷ fs) texts = texts-drop n fs texts.1
 
--- the fields of records are texts where all are
+-- the fields of all records are UTF-8 if all fields are
 pub all_texts : (fields : List Text) (places : List Place) → AllText fields → All AllText (map (fields_at fields) places)
 all_texts fields [] texts = All-nil AllText
 all_texts fields (place ∷ places) texts = All-cons AllText (fields_at fields place) (map (fields_at fields) places) (texts-take (place.end - place.start) (drop place.start fields) (texts-drop place.start fields texts)) (all_texts fields places texts)

@@ -1,4 +1,4 @@
--- A walk from quote to quote finds the one that opens a field which the text's end doesn't close.
+-- A walk from quote to quote finds the quote that opens an unclosed field.
 use Rattle.std.proofs.Common.{◌≡◌, ◌≢◌, ◌⊎◌, inl, inr, ◌+◌, ◌-◌, ◌<◌, ◌≤◌, ◌==◌, ◌||◌, ℕ, zero, suc, Bool, true, false, [], ◌∷◌, ◌++◌, ap, arith, drop, eqb-true, length, length-append, refl, subst, sym, take, ◌∙◌}
 use Rattle.std.proofs.Math.Seq.{take-add}
 use Rattle.std.proofs.lemmas.Bool.{cases_lt}
@@ -22,7 +22,7 @@ use Rattle.csv_records.specs.Quotes.{IsUnclosed, is_field_start, is_in_quoted_fi
 
 -- ---- one byte
 
--- outside quotes: csv's reader stands where a field begins, or in one
+-- outside quotes: a field begins in this state of csv's reader, or the reader is in one
 abbrev pub IsOutside : Bool → State → Type 0
 IsOutside true s = is_field_start s ≡ true
 IsOutside false s = s ≡ st.InField
@@ -47,7 +47,7 @@ module _ (delimiter c : ℕ) where
   outside_field : (c == 0x22) ≡ false → IsOutside (ends_field delimiter c) (start_field (config_for delimiter true) c).0
   outside_field differs = rw differs outside
 
-  -- a record begins as a field does, but for empty lines
+  -- a record begins as a field does, except at empty lines
   outside_record : (c == 0x22) ≡ false → IsOutside (ends_field delimiter c) (start_record (config_for delimiter true) c).0
   outside_record differs = by_line (ends_with term.CRLF c) refl (outside_field differs)
     where
@@ -83,7 +83,7 @@ module _ (delimiter c : ℕ) where
   unquoted st.InEscape starts differs = absurd (cc starts)
   unquoted st.InComment starts differs = absurd (cc starts)
 
-  -- in a field every byte is like another, a quote too
+  -- in a field every byte is an ordinary byte, also a quote
   in_a_field : (s : State) → s ≡ st.InField → IsOutside (ends_field delimiter c) (next s)
   in_a_field s here = rw here outside
 
@@ -114,7 +114,7 @@ module _ (delimiter c : ℕ) where
 
 -- ---- a walk
 
--- no quote is among n bytes from a place on
+-- none of the n bytes from a place on is a quote
 abbrev pub HasNoQuotes : Text → ℕ → ℕ → Type 0
 HasNoQuotes text at n = (k : ℕ) → k < n → (slice_index text (at + k) == 0x22) ≡ false
 
@@ -122,7 +122,8 @@ module _ (delimiter : ℕ) (text : Text) where
   abbrev pub state_at : ℕ → State
   state_at at = state_after delimiter (take at text)
 
-  -- a walk outside quotes stands here: `is_opening` says where, or a quote that closes others is right before it
+  -- A walk is outside quotes at this place. `is_opening` then says in which state, or a closing quote is right before
+  -- it.
   abbrev pub WalksOutside : ℕ → Type 0
   WalksOutside at = IsOutside (is_opening delimiter text at) (state_at at) ⊎ ClosesAt delimiter text at
 
@@ -156,7 +157,7 @@ module _ (delimiter : ℕ) (text : Text) where
   at_quote at within is (inl here) = here
   at_quote at within is (inr closed) = let not = closed.is_alone within in absurd (cc (is, not))
 
-  -- a quote that opens none is a byte of its field
+  -- a quote that opens no field is a byte of its field
   pub passes : (at : ℕ) → at < length text → (slice_index text at == 0x22) ≡ true → WalksOutside at → is_opening delimiter text at ≡ false → WalksOutside (at + 1)
   passes at within is here literal =
       let field : state_at at ≡ st.InField = rw literal at (at_quote at within is here) in
@@ -240,7 +241,7 @@ module _ (delimiter : ℕ) (text : Text) where
               rw same (still_quoted (state_at (at + 1 + 1)) inside)
           by_size (inr le) = goes_on_to from at so (still_behind (state_at (at + 1)) middle) n low le
 
-  -- quotes that stay open to the text's end
+  -- quotes stay open up to the end of the text
   pub unclosed : (at : ℕ) → at < length text → (slice_index text at == 0x22) ≡ true → is_field_start (state_at at) ≡ true
       → StaysQuoted delimiter text (at + 1) (length text) → IsUnclosed delimiter text (drop at text)
   unclosed at within is start so = record {
@@ -265,7 +266,7 @@ module _ (delimiter : ℕ) (text : Text) where
           let front : length (take at text) ≡ at = length-take-le at text (omega (arith, within)) in
           rw (upto n) (so.goes_on (at + suc n) (omega arith) (omega (arith, inside, len, front, ap length rest)))
 
--- ---- what a search for the next quote tells
+-- ---- the result of a search for the next quote
 
 pub not_true : (b : Bool) → (b ≡ true → ⊥) → b ≡ false
 not_true true not = absurd (not refl)
@@ -297,7 +298,7 @@ module _ (text : Text) (at : ℕ) (within : at ≤ length text) where
 
 -- ---- a byte-order mark
 
--- how many bytes are passed over
+-- the number of bytes of the mark
 pub marked : (text : Text) → (n : ℕ) × (strip_bom text ≡ drop n text) × (n ≤ length text) × (n + length (strip_bom text) ≡ length text)
 unfolding strip_bom
 marked [] = (0, refl, omega arith, omega arith)
@@ -309,7 +310,7 @@ marked (a ∷ b ∷ c ∷ text) = by_mark (is_bom a b c)
     by_mark true = (3, refl, omega arith, omega arith)
     by_mark false = (0, refl, omega arith, omega arith)
 
--- the places behind it, from the text's start
+-- places after the mark, counted from the start of the text
 pub shifted : (delimiter : ℕ) (text unmarked : Text) (at : ℕ) → unmarked ≡ strip_bom text → IsUnclosed delimiter unmarked (drop at unmarked) → IsUnclosed delimiter (strip_bom text) (drop (length text - length unmarked + at) text)
 shifted delimiter text unmarked at is so =
     let before = marked text in

@@ -1,4 +1,4 @@
--- What is read of a text where spaces don't stand between fields: the text, with quotes or without.
+-- If spaces aren't the delimiter, the text itself is read, with quotes or without.
 use Rattle.std.proofs.Common.{◌≡◌, ◌≢◌, ◌∙◌, Bool, Option, ap, true, refl}
 use Rattle.comfy_parts.specs.Text.{Text}
 use Rattle.csv_records.specs.Delimiter.{delimited, shows_delimiter}
@@ -20,7 +20,7 @@ plain_quotes Auto q other = refl
 plain_quotes NamedOrTab q other = refl
 plain_quotes Spaces q other = absurd (other refl)
 
--- and its parts
+-- the delimiter and the part with the records are then those of the text itself
 pub plain_parted : (options : InputOptions) (text : Text) → options.delimiter ≢ Spaces → parted options text ≡ delimited options.delimiter options.has_quotes text
 plain_parted options text other =
     let d = options.delimiter in

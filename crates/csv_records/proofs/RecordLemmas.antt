@@ -1,4 +1,4 @@
--- Records of text, and one that a delimiter splits.
+-- Records of UTF-8, and a record that a delimiter splits.
 use Rattle.std.proofs.Common.{◌≡◌, ◌⊎◌, inl, inr, ◌<◌, ◌≤◌, ℕ, zero, suc, arith, Bool, true, List, [], ◌∷◌, ◌++◌, Option, Some, None, All, refl, sym, subst}
 use Rattle.std.proofs.lemmas.Bool.{cases_lt}
 use Rattle.std.proofs.lemmas.List.Elements.{All-append}
@@ -14,7 +14,7 @@ use Rattle.csv.specs.declared.reader.Reader.{Reader}
 use Rattle.csv_records.proofs.TextLemmas.{text_read}
 use Rattle.csv_records.specs.Input.{SplitsCharacter, config_for}
 
--- the record that was taken is the next one
+-- the record that was read is the next one
 is_next : (next : Option FoundRecord) (fields : List Text) (s : State) (rest : Text) → NextIs next true fields s rest → (p : FoundRecord) × (next ≡ Some p) × (fields ≡ p.0)
 is_next None fields s rest h = absurd (cc h)
 is_next (Some p) fields s rest h = (p, refl, h.1)
@@ -29,7 +29,7 @@ module _ {R : Type 0} (rem : R → Option Text) (a b : Reader R) (delimiter : �
   found : (p : FoundRecord) × (next_record (config_for delimiter has_quotes) a.state [] [] text ≡ Some p) × (fields ≡ p.0)
   found = took (config_for delimiter has_quotes) a.state text _ fields b.state (rw (config, source) at read.0)
 
-  -- the fields that were read are texts, be it since the delimiter is ASCII
+  -- the fields that were read are UTF-8; only a delimiter that isn't ASCII needs a check
   pub is_text : IsUtf8 input → (128 ≤ delimiter → AllText fields) → AllText fields
   is_text utf8 looked_at = by_size (cases_lt delimiter 128)
     where
@@ -37,7 +37,7 @@ module _ {R : Type 0} (rem : R → Option Text) (a b : Reader R) (delimiter : �
       by_size (inr high) = looked_at high
       by_size (inl ascii) = subst AllText (sym found.2) (text_read delimiter has_quotes ascii input before a.state text found.0 utf8 reached found.1)
 
-  -- or the delimiter splits a character
+  -- otherwise the delimiter splits a character
   pub splits : All AllText before → 128 ≤ delimiter → ¬ (AllText fields) → SplitsCharacter delimiter has_quotes input
   splits are_text no_ascii no_text = record {
     no_ascii = no_ascii;
@@ -51,7 +51,7 @@ module _ {R : Type 0} (rem : R → Option Text) (a b : Reader R) (delimiter : �
     is_no_text = subst (λ (f : List Text). ¬ (AllText f)) found.2 no_text;
   }
 
--- one more record of text
+-- one more record of UTF-8
 pub more_text : (rows : List (List Text)) (fields : List Text) → All AllText rows → AllText fields → All AllText (rows ++ fields ∷ [])
 more_text rows fields are is = All-append AllText rows (fields ∷ []) are (only fields is)
   where
@@ -59,7 +59,7 @@ more_text rows fields are is = All-append AllText rows (fields ∷ []) are (only
     only fields is zero d h = is
     only fields is (suc k) d h = absurd (omega arith)
 
--- texts behind texts
+-- UTF-8 fields after UTF-8 fields
 pub both_text : (fields more : List Text) → AllText fields → AllText more → AllText (fields ++ more)
 unfolding AllText
 both_text [] more first second = second

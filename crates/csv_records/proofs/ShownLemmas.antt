@@ -1,4 +1,4 @@
--- Texts for messages hold no control characters but line feeds.
+-- Line feeds are the only control characters in texts for messages.
 use Rattle.std.proofs.Common.{◌≡◌, ◌==◌, ◌&&◌, ◌||◌, ℕ, Bool, true, false, List, [], ◌∷◌, chars, map, refl, ap, ap₂, ◌∙◌}
 use Rattle.std.proofs.lemmas.Bool.{and_parts}
 use Rattle.std.proofs.Math.Utf8.{scalar as scalar_of}

@@ -1,4 +1,4 @@
--- Lines whose fields stand between spaces, and where they are cut.
+-- Lines whose fields are separated by spaces, and the places where they are cut.
 use Rattle.std.proofs.Common.{◌≡◌, ◌∙◌, ◌⊎◌, Option, append_assoc, eqb-true, sym, inl, inr, ◌<◌, ◌≤◌, ◌==◌, ◌+◌, ◌-◌, ℕ, zero, suc, Bool, true, false, [], ◌∷◌, ◌++◌, Some, None, arith, drop, get_or, length, nat_lt, refl, subst, take, tests, ap}
 use Rattle.std.proofs.Math.Seq.{take-length}
 use Rattle.std.proofs.lemmas.Bool.{cases_lt}
@@ -28,7 +28,7 @@ boundary_before_gap text = by_place (cases_lt (position_or_len is_gap text) (len
         let whole : length text ≡ position_or_len is_gap text = omega arith in
         subst (λ (n : ℕ). IsCharBoundary text n) whole (IsCharBoundary-end text)
 
--- and behind the gap in front of it
+-- a text may be cut after the gap at its front
 pub boundary_behind_gap : (text : Text) → IsUtf8 text → IsCharBoundary text (prefix_len is_gap text)
 boundary_behind_gap text utf8 = by_len (prefix_len is_gap text) refl
   where
@@ -41,7 +41,7 @@ boundary_behind_gap text utf8 = by_len (prefix_len is_gap text) refl
 
 -- ---- TABs
 
--- a front without TABs stays
+-- a prefix without TABs stays as it is
 spaced_front : (line : Text) (at : ℕ) → ((k : ℕ) → k < at → (get_or line k 0 == 0x09) ≡ false) → spaced (take at line) ≡ take at line
 spaced_front line zero none = refl
 spaced_front [] (suc at) none = refl

@@ -1,4 +1,4 @@
--- The records of UTF-8 are UTF-8 where the delimiter is ASCII: a byte that isn't ASCII does nothing but join its field.
+-- The records of UTF-8 are UTF-8 if the delimiter is ASCII: a byte that isn't ASCII only joins its field.
 use Rattle.std.proofs.Common.{◌≡◌, ◌⊎◌, inl, inr, ◌<◌, ◌≤◌, ◌==◌, ◌&&◌, ◌||◌, ℕ, Bool, true, false, List, [], ◌∷◌, ◌++◌, Some, None, All, ap, append_assoc, append-nil, arith, encode_utf8, eqb-true, length, length-append, refl, subst, sym, tests, ◌∙◌}
 use Rattle.std.proofs.Math.Seq.{drop-append_seam, get_or-append_seam, take-append_seam}
 use Rattle.std.proofs.lemmas.Bool.{and_parts, cases_lt, false≢true}
@@ -20,7 +20,7 @@ use Rattle.csv_records.specs.Input.{config_for}
 
 -- ---- texts
 
--- a text may be cut at a character of ASCII
+-- a text may be cut at an ASCII character
 cut : (front back : Text) (c : ℕ) → c < 128 → IsUtf8 (front ++ c ∷ back) → IsUtf8 front × IsUtf8 back
 cut front back c below utf8 = (
   subst IsUtf8 (take-append_seam front (c ∷ back)) (IsUtf8-take (front ++ c ∷ back) (length front) utf8 boundary),
@@ -41,7 +41,7 @@ mark_in a b c rest is =
     let whole : a ∷ b ∷ c ∷ rest ≡ 0xEF ∷ 0xBB ∷ 0xBF ∷ rest = rw (eqb-true a 0xEF both.0, eqb-true b 0xBB both.1, eqb-true c 0xBF third.1) refl in
     whole ∙ ap (λ (t : Text). t ++ rest) (sym bom)
 
--- a text without its byte-order mark is a text
+-- UTF-8 without its byte-order mark is UTF-8
 without_bom : (text : Text) → IsUtf8 text → IsUtf8 (strip_bom text)
 unfolding strip_bom
 without_bom [] utf8 = utf8
@@ -55,7 +55,7 @@ without_bom (a ∷ b ∷ c ∷ rest) utf8 = by_bom (is_bom a b c) refl
 
 -- ---- one byte
 
--- no comment is being read
+-- the reader isn't in a comment in this state
 abbrev is_read : State → Bool
 is_read st.StartRecord = true
 is_read st.StartField = true
@@ -66,7 +66,7 @@ is_read st.InEscape = true
 is_read st.InComment = false
 is_read st.AfterCr = true
 
--- after the byte c no comment is read, and a byte that isn't ASCII was joined to the field
+-- after byte c the reader isn't in a comment, and a byte that isn't ASCII has joined the field
 record Joins (c : ℕ) (p : State × Action) : Type 0 where
   outside : is_read p.0 ≡ true
   joined : 128 ≤ c → p.1 ≡ act.Copy
@@ -76,14 +76,14 @@ by_test c true p q met unmet = met refl
 by_test c false p q met unmet = unmet refl
 
 module _ (delimiter : ℕ) (has_quotes : Bool) (c : ℕ) (ascii : delimiter < 128) where
-  -- a byte of ASCII may do whatever it does
+  -- an ASCII byte may have any effect
   low : (p : State × Action) → c < 128 → is_read p.0 ≡ true → Joins c p
   low p below outside = record { outside = outside; joined = λ high. absurd (omega (arith, below, high)) }
 
   same : (n : ℕ) → n < 128 → (c == n) ≡ true → c < 128
   same n below is = omega (arith, eqb-true c n is, below)
 
-  -- a quote, if quotes mark fields
+  -- a quote is ASCII
   quote : (b : Bool) → (b && (c == 34)) ≡ true → c < 128
   quote b is = same 34 (omega arith) (and_parts b (c == 34) is).1
 
@@ -119,7 +119,7 @@ module _ (delimiter : ℕ) (has_quotes : Bool) (c : ℕ) (ascii : delimiter < 12
 
 -- ---- records
 
--- the fields of a record are texts, and so is what follows
+-- the fields of a record are UTF-8, and so is the text after the record
 record IsTextRecord (next : FoundRecord) : Type 0 where
   fields : AllText next.0
   outside : is_read next.1 ≡ true
@@ -130,7 +130,7 @@ unfolding AllText
 no_fields = tt
 
 module _ (delimiter : ℕ) (has_quotes : Bool) (ascii : delimiter < 128) where
-  -- the next record of this text is text, whichever fields were read of it before
+  -- the next record of this text is UTF-8, whichever fields were read before it
   abbrev ReadsText : Text → Type 0
   ReadsText text =
       (s : State) (fields : List Text) (field : Text) (next : FoundRecord) → is_read s ≡ true → AllText fields → IsUtf8 (field ++ text)
@@ -147,7 +147,7 @@ module _ (delimiter : ℕ) (has_quotes : Bool) (ascii : delimiter < 128) where
           subst IsTextRecord last (record { fields = text-more fields field texts (subst IsUtf8 (append-nil field) utf8); outside = refl; rest = IsUtf8-nil })
   next_is_text (c ∷ text) s fields field next read texts utf8 found = by_action (next_is_text text) (step (config_for delimiter has_quotes) s c) (step-joins delimiter has_quotes c ascii s read) found
     where
-      -- an action that doesn't join the byte to the field is one of ASCII
+      -- an action that doesn't join the byte to the field belongs to an ASCII byte
       parts : (s2 : State) (a : Action) → Joins c (s2, a) → (a ≡ act.Copy → ⊥) → IsUtf8 field × IsUtf8 text
       parts s2 a joins differs = by_size (cases_lt c 128)
         where
@@ -179,7 +179,7 @@ module _ (delimiter : ℕ) (has_quotes : Bool) (ascii : delimiter < 128) where
       let others = reached_is_text records next.1 s2 next.2 rest first.outside first.rest more in
       (All-cons AllText fields records (subst AllText (sym is) first.fields) others.0, others.1, others.2)
 
--- a record that is read of a text is text, where the delimiter is ASCII
+-- a record that is read from UTF-8 is UTF-8 if the delimiter is ASCII
 pub text_read : (delimiter : ℕ) (has_quotes : Bool) → delimiter < 128 → (input : Text) (before : List (List Text)) (s : State) (rest : Text) (next : FoundRecord) → IsUtf8 input → Reached (config_for delimiter has_quotes) st.StartRecord (strip_bom input) before s rest
     → next_record (config_for delimiter has_quotes) s [] [] rest ≡ Some next → AllText next.0
 text_read delimiter has_quotes ascii input before s rest next utf8 reached found =

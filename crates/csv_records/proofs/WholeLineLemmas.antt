@@ -1,4 +1,4 @@
--- What a text has up to behind its last line feed.
+-- The complete lines of a text: all up to its last line feed.
 use Rattle.std.proofs.Common.{◌≡◌, ◌+◌, ◌<◌, ◌≤◌, ◌==◌, ◌||◌, ℕ, zero, suc, Bool, true, false, [], ◌∷◌, ◌++◌, Some, None, length, length-append, take, sym, refl, ap, ◌∙◌, arith}
 use Rattle.std.specs.List.{list_any}
 use Rattle.std.proofs.lemmas.List.Folds.{list_any_at}
@@ -6,7 +6,7 @@ use Rattle.memchr.specs.Find.{IsLastByte, Passes, is_byte}
 use Rattle.comfy_parts.specs.Text.{Text}
 use Rattle.csv_records.specs.Beginning.{is_line_feed, whole_lines}
 
--- no line is whole where none ends
+-- a text without a line feed has no complete line
 none_whole : (text : Text) → list_any is_line_feed text ≡ false → whole_lines text ≡ []
 none_whole [] none = refl
 none_whole (b ∷ rest) none = rw none refl
@@ -14,7 +14,7 @@ none_whole (b ∷ rest) none = rw none refl
 some_whole : (b : ℕ) (rest : Text) → list_any is_line_feed (b ∷ rest) ≡ true → whole_lines (b ∷ rest) ≡ b ∷ whole_lines rest
 some_whole b rest some = rw some refl
 
--- a line feed that stands nowhere isn't found
+-- a line feed that is at no place isn't in the text
 nowhere : (text : Text) → ((k : ℕ) → k < length text → ¬ (Passes (is_byte 0x0A) text k)) → list_any is_line_feed text ≡ false
 nowhere [] none = refl
 nowhere (b ∷ rest) none = by_first (b == 0x0A) refl (nowhere rest (λ k within here. none (suc k) (omega (arith, within)) here))
@@ -23,7 +23,7 @@ nowhere (b ∷ rest) none = by_first (b == 0x0A) refl (nowhere rest (λ k within
     by_first true is behind = absurd (none 0 (omega arith) is)
     by_first false is behind = behind
 
--- up to behind the last place where one stands all lines are whole
+-- the text up to and with its last line feed is its complete lines
 last_whole : (text : Text) (k : ℕ) → k < length text → Passes (is_byte 0x0A) text k → ((i : ℕ) → k + 1 ≤ i → i < length text → ¬ (Passes (is_byte 0x0A) text i)) → take (k + 1) text ≡ whole_lines text
 last_whole [] k within here none = absurd (omega (arith, within))
 last_whole (b ∷ rest) zero within here none =
@@ -35,7 +35,7 @@ last_whole (b ∷ rest) (suc k) within here none =
     let more : suc k + 1 ≡ suc (k + 1) = omega arith in
     ap (λ n. take n (b ∷ rest)) more ∙ ap (λ t. b ∷ t) behind ∙ sym (some_whole b rest some)
 
--- they are in front
+-- the complete lines are a prefix of the text
 pub whole_front : (text : Text) → (behind : Text) × (text ≡ whole_lines text ++ behind)
 whole_front [] = ([], refl)
 whole_front (b ∷ rest) = by_test (list_any is_line_feed (b ∷ rest)) refl (whole_front rest)
@@ -50,7 +50,7 @@ whole_length text =
     let both : length text ≡ length (whole_lines text) + length parts.0 = ap length parts.1 ∙ length-append (whole_lines text) parts.0 in
     omega (arith, both)
 
--- as memrchr finds it
+-- the complete lines when memrchr finds no line feed
 pub no_place : (text : Text) → IsLastByte (is_byte 0x0A) text None → [] ≡ whole_lines text
 no_place text none = sym (none_whole text (nowhere text (λ k within. none k (omega arith) within)))
 

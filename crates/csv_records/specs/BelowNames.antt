@@ -1,5 +1,5 @@
--- Lines whose fields stand below the names of a first line. Here a line is its characters, and the
--- place of one is how many stand before it.
+-- Lines whose fields are below the names of a first line. Here a line is a list of its characters,
+-- and a place is a position in this list, counted from 0.
 -- Source: this library's own.
 use Rattle.std.specs.Prelude.{ℕ, ◌==◌, ◌&&◌, ◌||◌, not, nat_le, nat_lt, Bool, List, [], ◌∷◌, ◌++◌, Option, Some, None, chars, codes, encode_utf8, flat_map, length, slice_index, take, if◌then◌else◌}
 use Rattle.std.specs.List.{filter, list_all, list_any, range_with_len, suffix_len}
@@ -11,11 +11,11 @@ places line = range_with_len 0 (length line)
 abbrev pub has_space : List ℕ → ℕ → Bool
 has_space line at = slice_index line at == 0x20
 
--- how many spaces precede a place
+-- the number of spaces directly before a place
 abbrev pub spaces_before : List ℕ → ℕ → ℕ
 spaces_before line at = suffix_len (λ c. c == 0x20) (take at line)
 
--- a name begins at a place: three spaces or more precede it, and none stands there
+-- a name begins at a place that isn't a space and follows three spaces or more
 abbrev pub begins_name : List ℕ → ℕ → Bool
 begins_name line at = nat_le 3 (spaces_before line at) && not (has_space line at)
 
@@ -26,8 +26,8 @@ starts_of line = filter (begins_name line) (places line)
 abbrev pub is_start : List ℕ → ℕ → Bool
 is_start starts at = list_any (λ start. start == at) starts
 
--- a line fits the places of some names: two spaces or more precede each of them, and at any other
--- place nothing begins behind two
+-- true if a line fits the starts of names at this place. Two spaces or more precede each start. At
+-- any other place nothing begins after two spaces or more.
 abbrev pub fits_at : List ℕ → List ℕ → ℕ → Bool
 fits_at starts line at =
     if is_start starts at
@@ -37,8 +37,7 @@ fits_at starts line at =
 abbrev pub fits : List ℕ → List ℕ → Bool
 fits starts line = list_all (fits_at starts line) (places line)
 
--- the places of the names of some lines, where there are two or more behind the first, and all
--- lines fit them
+-- the starts of names in the first line, if it has two or more and all lines fit them
 abbrev pub first_starts : List Text → List ℕ
 first_starts [] = []
 first_starts (first ∷ others) = starts_of (chars first)
@@ -50,14 +49,14 @@ name_starts lines =
     then Some starts
     else None
 
--- a character of a field, with the space before it where that is a single one
+-- a character of a field, with the space before it if that is a single one
 abbrev pub with_space : ℕ → ℕ → Text
 with_space spaces c =
     if c == 0x20
     then []
     else (if spaces == 1 then codes " " else []) ++ encode_utf8 (if c == 0x09 then 0x20 else c)
 
--- a line with a TAB at each start
+-- the character at a place, with a TAB before it if the place is a start
 abbrev pub columns_at : List ℕ → List ℕ → ℕ → Text
 columns_at starts line at =
     (if is_start starts at then codes "\t" else [])

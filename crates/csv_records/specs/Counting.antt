@@ -1,4 +1,4 @@
--- Private: how many fields a record has, as csv's reader finds them byte by byte.
+-- Private: the number of fields of a record, found byte by byte as csv's reader finds it.
 -- Source: the crate csv.
 use Rattle.std.specs.Prelude.{ℕ, ◌+◌, Bool, true, false, [], ◌∷◌, Option, Some, None, if◌then◌else◌}
 use Rattle.comfy_parts.specs.Text.{Text}
@@ -11,7 +11,7 @@ use Rattle.csv.specs.declared.parser.State.TheVariants as st
 use Rattle.csv_records.specs.declared.counting.State.{State}
 use Rattle.csv_records.specs.declared.counting.State.TheVariants as own
 
--- the state of csv's reader that is meant
+-- the state of csv's reader for one of our own states
 abbrev pub state_at : State → ReaderState
 state_at own.StartRecord = st.StartRecord
 state_at own.StartField = st.StartField
@@ -19,7 +19,7 @@ state_at own.InField = st.InField
 state_at own.InQuoted = st.InQuoted
 state_at own.AfterQuote = st.AfterQuote
 
--- a state after an action that ends no record, and whether it ends a field
+-- a state after an action that ends no record, and true if the action ends a field
 abbrev pub after_action : Action → ReaderState → Option (ReaderState × Bool)
 after_action act.EndRecord state = None
 after_action act.EndField state = Some (state, true)
@@ -29,17 +29,18 @@ after_action act.Copy state = Some (state, false)
 abbrev pub after_step : ReaderState × Action → Option (ReaderState × Bool)
 after_step next = after_action next.1 next.0
 
--- the same behind a byte
+-- the state after a byte, and true if the byte ends a field; `None` if it ends the record
 abbrev pub step : Config → ReaderState → ℕ → Option (ReaderState × Bool)
 step config state b = after_step (csv.step config state b)
 
--- what is counted behind a byte: the record ends, or it goes on
+-- counts on after a byte: the record ends, or it goes on
 abbrev pub count_behind : (ReaderState → ℕ → Option (ℕ × Text)) → ℕ → Text
     → Option (ReaderState × Bool) → Option (ℕ × Text)
 count_behind more count rest None = Some (count, rest)
 count_behind more count rest (Some next) = more next.0 (count + (if next.1 then 1 else 0))
 
--- how many fields the record at hand has, of which so many have begun, and what follows it
+-- the number of fields of the record at hand, of which `count` have begun, and the text after the
+-- record
 unfoldable pub count_from : Config → ReaderState → ℕ → Text → Option (ℕ × Text)
 count_from config state count [] = if csv.ends_at_end state then Some (count, []) else None
 count_from config state count (b ∷ rest) =

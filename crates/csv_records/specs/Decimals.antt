@@ -1,4 +1,4 @@
--- Decimal marks of a column of numbers, and what its fractions lack to stand below each other.
+-- Decimal marks of a column of numbers, and the spaces that align them.
 -- Source: this library's own.
 use Rattle.std.specs.Prelude.{ℕ, Bool, true, ◌+◌, ◌-◌, ◌==◌, ◌&&◌, ◌||◌, not, List, length, map, max, fold, Option, Some, None, chars, if◌then◌else◌}
 use Rattle.std.specs.Char.{is_ascii_digit}
@@ -19,40 +19,40 @@ abbrev pub byte_of : DecimalMark → ℕ
 byte_of Point = 0x2E
 byte_of Comma = 0x2C
 
--- the digits of a field, with their marks
+-- the digits of a field, with the marks between them
 abbrev pub digits_in : Text → Text
 digits_in field = figure_of (trimmed field)
 
--- a number that ends with a digit and has no exponent, or a field that says nothing
+-- a number that ends with a digit and has no exponent, or a neutral field
 abbrev pub is_plain : Text → Bool
 is_plain field =
     is_neutral field
     || ((is_number field && ends is_ascii_digit (chars field)) && is_decimal (digits_in field))
 
--- digits that may be groups of a whole number, as `1,234`; not `0.125`
+-- true if digits may be a whole number in groups, as `1,234`, but not `0.125`
 abbrev pub may_be_whole : Text → Bool
 may_be_whole digits = has_groups digits && not (begins (λ b. b == 0x30) digits)
 
--- digits decide a mark where nothing but a fraction behind it can be read, as `1,5` and `1.234,56`
+-- true if digits can only be read with a fraction after this mark, as `1,5` and `1.234,56`
 abbrev pub decides : DecimalMark → Text → Bool
 decides mark digits = is_fraction (halves (byte_of mark) digits) && not (may_be_whole digits)
 
--- with a mark digits are read that don't have it, or have a fraction behind it: with a point
--- `1,234` and `1.5`, and not `1.234.567`
+-- true if digits lack the mark, or have a fraction after it. With a point, `1,234` and `1.5` are
+-- read, and `1.234.567` isn't.
 abbrev pub is_read : Option (Text × Text) → Bool
 is_read None = true
 is_read (Some parts) = is_fraction (Some parts)
 
--- what stands behind the whole number: the mark and the digits of the fraction
+-- the length of a mark and the digits of the fraction after it, or 0 without a mark
 abbrev pub fraction_len : Option (Text × Text) → ℕ
 fraction_len None = 0
 fraction_len (Some (whole, rest)) = 1 + length rest
 
--- both of them for digits and a mark
+-- the length of a fraction, and true if its digits are read with the mark
 abbrev pub fraction_of : Option (Text × Text) → Fraction
 fraction_of parts = record { len = fraction_len parts; is_read = is_read parts }
 
--- what a field says as a number, by its digits
+-- a field as a number, by its digits
 abbrev pub number_with : Bool → Bool → Text → FieldNumber
 number_with is_number is_bare digits =
     record {
@@ -68,7 +68,7 @@ number_of field = number_with (is_number field) (list_all is_written field) (dig
 
 -- ---- a column
 
--- how the digits of a column use a mark
+-- the use that the digits of a column make of a mark
 abbrev pub use_of : DecimalMark → List Text → MarkUse
 use_of mark fields =
     record {
@@ -79,7 +79,7 @@ use_of mark fields =
           (map (λ field. fraction_len (halves (byte_of mark) (digits_in field))) fields);
     }
 
--- so with the digits of one field more
+-- the use of a mark after the digits of one more field
 abbrev pub use_with : DecimalMark → MarkUse → Text → MarkUse
 use_with mark this digits =
     record {
@@ -96,7 +96,8 @@ marks_of fields =
       comma = use_of Comma fields;
     }
 
--- a column has a mark that some field decides and all are read with, where none decides the other
+-- true if some field decides for this mark, all fields are read with it, and no field decides for
+-- the other mark
 abbrev pub has_mark : MarkUse → MarkUse → Bool
 has_mark this other = (this.is_decided && this.is_read) && not other.is_decided
 
@@ -111,7 +112,7 @@ points_for marks =
 abbrev pub points_of : List Text → Option Points
 points_of fields = points_for (marks_of fields)
 
--- the spaces behind a field of such a column, so that its mark stands below those of the others
+-- the spaces after a field of such a column that put its mark below those of the other fields
 abbrev pub spaces_behind : Points → Text → ℕ
 spaces_behind points field =
     if is_neutral field

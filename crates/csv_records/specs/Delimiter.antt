@@ -1,4 +1,4 @@
--- What stands between the fields of a text, and where its records begin.
+-- The delimiter between the fields of a text, and the place where its records begin.
 -- Source: this library's own; a line `sep=X` is Excel's.
 use Rattle.std.specs.Prelude.{ℕ, ◌+◌, ◌<◌, ◌==◌, ◌&&◌, ◌||◌, nat_lt, not, Bool, true, false, List, [], ◌∷◌, Option, Some, None, bytes_eq, codes, drop, is_some, length, map, option_and_then, option_map, take, unwrap_or, if◌then◌else◌}
 use Rattle.std.specs.Char.{to_ascii_lowercase}
@@ -19,11 +19,11 @@ only_byte [] = None
 only_byte (b ∷ []) = if ((b == 0x22) || (b == 0x0A)) || (b == 0x0D) then None else Some b
 only_byte (b ∷ c ∷ rest) = None
 
--- such a word of ASCII
+-- the same for ASCII only
 abbrev pub only_ascii : Text → Option ℕ
 only_ascii word = option_and_then (λ b. if nat_lt b 128 then Some b else None) (only_byte word)
 
--- the word before a delimiter that a line names, in letters of either case
+-- the word before the delimiter in a line that names it; letters of either case count
 abbrev pub naming_word : Text
 naming_word = codes "sep="
 
@@ -34,29 +34,29 @@ delimiter_in line =
     then only_ascii (drop (length naming_word) line)
     else None
 
--- the delimiter that a first line names, behind a byte-order mark too, and what follows that line
+-- the delimiter that a first line names, also after a byte-order mark, and the text after that line
 abbrev pub named_delimiter : Text → Option (ℕ × Text)
 named_delimiter text =
     option_map (λ b. (b, below_line (strip_bom text))) (delimiter_in (first_line (strip_bom text)))
 
 -- ---- a delimiter that is found
 
--- how many fields the first records have, at most so many records
+-- the numbers of fields of the first records, at most `most` of them
 abbrev pub field_counts : Bool → Text → ℕ → ℕ → List ℕ
 field_counts has_quotes text delimiter most =
     map (λ fields. length fields)
     (records_from (config_for delimiter has_quotes) most st.StartRecord (strip_bom text))
 
--- how many records have the commonest number of fields, of those above 1
+-- the number of records that have the commonest number of fields above 1
 abbrev pub agreement : List ℕ → ℕ
 agreement counts =
     greatest (map (λ n. count_by (λ m. m == n) counts) (filter (λ n. nat_lt 1 n) counts))
 
--- how many records are looked at
+-- the number of first records that are compared
 abbrev pub first_looked_at : ℕ
 first_looked_at = 10
 
--- how many of the first records of a text agree so, by a delimiter
+-- the number of first records that agree in their number of fields, with this delimiter
 abbrev pub agreement_by : Bool → Text → ℕ → ℕ
 agreement_by has_quotes text delimiter =
     agreement (field_counts has_quotes text delimiter first_looked_at)
@@ -65,18 +65,19 @@ agreement_by has_quotes text delimiter =
 abbrev pub tried_delimiters : List ℕ
 tried_delimiters = 0x09 ∷ 0x3B ∷ 0x2C ∷ 0x7C ∷ []
 
--- the first of some delimiters by which the most records agree, a comma where none do
+-- the first of the delimiters with which most records agree, or a comma if no records agree with
+-- any
 abbrev pub best_delimiter : (ℕ → ℕ) → List ℕ → ℕ
 best_delimiter agree delimiters =
     let most = greatest (map agree delimiters) in
     unwrap_or (find (λ d. nat_lt 0 (agree d) && (agree d == most)) delimiters) 0x2C
 
--- that of those that are tried
+-- the best of the delimiters that are tried
 abbrev pub found_delimiter : Bool → Text → ℕ
 found_delimiter has_quotes text = best_delimiter (agreement_by has_quotes text) tried_delimiters
 
--- a delimiter gives a text more records than those that are looked at, so that these are whole,
--- however the text goes on
+-- With this delimiter a text has more records than are compared. The compared records are then
+-- complete, however the text goes on.
 abbrev pub has_first_records : Bool → Text → ℕ → Bool
 has_first_records has_quotes text delimiter =
     let wanted = first_looked_at + 1 in
@@ -84,7 +85,7 @@ has_first_records has_quotes text delimiter =
 
 -- ---- the delimiter of a text
 
--- the byte between the fields of a text, and what there is of records
+-- the byte between the fields of a text, and the part of the text that holds its records
 abbrev pub delimited : Delimiter → Bool → Text → ℕ × Text
 delimited (Byte b) has_quotes text = (b, text)
 delimited Auto has_quotes text =
@@ -92,16 +93,17 @@ delimited Auto has_quotes text =
 delimited NamedOrTab has_quotes text = unwrap_or (named_delimiter text) (0x09, text)
 delimited Spaces has_quotes text = (0x09, text)
 
--- a byte that wasn't asked for is ASCII
+-- a byte that isn't set by options is ASCII
 abbrev pub IsAsciiUnlessAsked : Delimiter → ℕ → Type 0
 IsAsciiUnlessAsked (Byte b) delimiter = Unit {0}
 IsAsciiUnlessAsked Auto delimiter = delimiter < 128
 IsAsciiUnlessAsked NamedOrTab delimiter = delimiter < 128
 IsAsciiUnlessAsked Spaces delimiter = delimiter < 128
 
--- a text shows what stands between fields, however it goes on: a byte is asked for, which is no
--- line feed, or its first line names one, or each that is tried gives it so many records. Where
--- spaces part fields, no beginning is enough
+-- A text shows its delimiter, however it goes on, in one of four cases: the delimiter is a given
+-- byte other than a line feed, or `NamedOrTab` is set, or the first line names it, or each tried
+-- delimiter gives the text more records than are compared. If spaces are the delimiter, no
+-- beginning is enough.
 abbrev pub shows_delimiter : Delimiter → Bool → Text → Bool
 shows_delimiter (Byte b) has_quotes text = not (b == 0x0A)
 shows_delimiter Auto has_quotes text =

@@ -1,4 +1,4 @@
--- An input's encoding, and the text that its bytes are.
+-- The encoding of an input, and the text of its bytes.
 -- Source: the Unicode Standard for UTF-16, its mapping CP1252.TXT for Windows-1252.
 use Rattle.std.specs.Prelude.{ℕ, ◌≡◌, ◌-◌, ◌%◌, ◌==◌, ◌&&◌, nat_le, nat_lt, List, [], ◌∷◌, ◌++◌, map, drop, length, Option, Some, None, IsUtf8, encode_utf8_all, is_some, if◌then◌else◌, slice_index}
 use Rattle.std.specs.Char.Utf16.{utf16_chars}
@@ -16,7 +16,7 @@ use Rattle.csv_records.specs.declared.error.DecodeError.TheVariants.{NotUtf16, O
 
 -- ---- which encoding
 
--- the order of a unit's two bytes, where a byte-order mark at the front tells it
+-- the order of a unit's two bytes, if the input begins with a byte-order mark of UTF-16
 abbrev pub marked_order : Text → Option ByteOrder
 marked_order [] = None
 marked_order (a ∷ []) = None
@@ -25,14 +25,14 @@ marked_order (a ∷ b ∷ rest) =
     else if (a == 0xFE) && (b == 0xFF) then Some BigEndian
     else None
 
--- the encoding that was asked for, else UTF-16 behind a byte-order mark of UTF-16, else UTF-8
+-- the encoding that is set, or else UTF-16 after a byte-order mark of UTF-16, or else UTF-8
 abbrev pub encoding_of : Option Encoding → Text → Encoding
 encoding_of (Some encoding) input = encoding
 encoding_of None input = if is_some (marked_order input) then Utf16 else Utf8
 
 -- ---- Windows-1252
 
--- the characters for the bytes from 0x80 to 0x9F, U+FFFD for the five open ones
+-- the characters for the bytes from 0x80 to 0x9F; U+FFFD for the five bytes that are undefined
 abbrev pub cp1252_from_80 : List ℕ
 cp1252_from_80 =
     0x20AC ∷ 0xFFFD ∷ 0x201A ∷ 0x0192 ∷ 0x201E ∷ 0x2026 ∷ 0x2020 ∷ 0x2021
@@ -50,11 +50,11 @@ cp1252_text input = encode_utf8_all (map cp1252_character input)
 
 -- ---- UTF-16
 
--- the order of a unit's bytes: without a mark the low one is first
+-- the order of a unit's bytes: without a mark the low byte is first
 abbrev pub order_of : Text → ByteOrder
 order_of input = unwrap_or (marked_order input) LittleEndian
 
--- what follows the mark
+-- the input without its mark
 abbrev pub without_utf16_mark : Text → Text
 without_utf16_mark input = if is_some (marked_order input) then drop 2 input else input
 
@@ -72,31 +72,31 @@ units order (a ∷ b ∷ rest) = unit order a b ∷ units order rest
 abbrev pub odd_byte : Text → List (Option ℕ)
 odd_byte bytes = if length bytes % 2 == 0 then [] else None ∷ []
 
--- the characters below so many lines of these bytes, with `None` for each surrogate without a
--- partner and for an odd byte. Units are line ends as bytes are
+-- the characters below the first `skip` lines of these bytes, with `None` for each surrogate
+-- without a partner and for an odd byte. Line ends are units, as they are bytes in other encodings.
 abbrev pub characters_in : ByteOrder → ℕ → Text → List (Option ℕ)
 characters_in order skip bytes =
     utf16_chars (below_lines skip (units order bytes)) ++ odd_byte bytes
 
--- those of an input in UTF-16
+-- the characters of an input in UTF-16 below its first `skip` lines
 abbrev pub utf16_characters : ℕ → Text → List (Option ℕ)
 utf16_characters skip input = characters_in (order_of input) skip (without_utf16_mark input)
 
 module _ (read : List (Option ℕ)) where
-  -- all that was read are characters, of this text
+  -- all that was read are characters, and `text` is their UTF-8
   pub record AreCharactersOf (text : Text) : Type 0 where
     pub characters : List ℕ
     pub are_all : read ≡ map Some characters
     pub spell : text ≡ encode_utf8_all characters
 
-  -- the first that is no character stands in this line, so many lines standing above
+  -- the first unpaired surrogate or odd byte is in this line; `above` lines were left out
   pub record IsFirstUnpaired (above : ℕ) (line : ℕ) : Type 0 where
     pub before : List ℕ
     pub after : List (Option ℕ)
     pub first : read ≡ map Some before ++ (None ∷ after)
     pub numbered : line ≡ line_number above (encode_utf8_all before)
 
-  -- why there is no text: one is no character, or there is no memory
+  -- the error for bytes without a text: an unpaired surrogate or odd byte, or no memory
   abbrev pub IsUtf16Refusal : ℕ → DecodeError → Type 0
   IsUtf16Refusal above (NotUtf16 line) = IsFirstUnpaired above line
   IsUtf16Refusal above OutOfMemory = Unit {0}
@@ -104,15 +104,15 @@ module _ (read : List (Option ℕ)) where
 
 -- ---- the text of an input
 
--- this is the text below so many lines of an input in an encoding; what stands above may be in
--- another one
+-- `text` is the text of an input in an encoding, below its first `skip` lines. These lines may be
+-- in another encoding.
 abbrev pub IsDecoded : Encoding → ℕ → Text → Text → Type 0
 IsDecoded Utf8 skip input text =
     IsUtf8 (below_lines skip input) × (text ≡ below_lines skip input)
 IsDecoded Cp1252 skip input text = text ≡ cp1252_text (below_lines skip input)
 IsDecoded Utf16 skip input text = AreCharactersOf (utf16_characters skip input) text
 
--- why an input in an encoding has no text below so many lines
+-- the error for an input that has no text in this encoding below its first `skip` lines
 abbrev pub IsRefusedIn : Encoding → ℕ → Text → DecodeError → Type 0
 IsRefusedIn Utf8 skip input e = IsTextRefusal skip (below_lines skip input) e
 IsRefusedIn Cp1252 skip input e = e ≡ OutOfMemory

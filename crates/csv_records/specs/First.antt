@@ -4,7 +4,7 @@ use Rattle.std.specs.Prelude.{ℕ, ◌≡◌, List, length, take}
 use Rattle.comfy_parts.specs.Text.{Text}
 use Rattle.csv_records.specs.declared.records.FirstRecords.{FirstRecords}
 
--- these are the first of such records, at most so many, and how many there are
+-- `first` has the first records, at most `most` of them, and the number of all records
 pub record AreFirst (Are : List (List Text) → Type 0) (most : ℕ)
     (first : FirstRecords) : Type 0 where
   pub all : List (List Text)

@@ -7,11 +7,12 @@ use Rattle.comfy_parts.specs.Text.{Text}
 abbrev pub ends_line : ℕ → Bool
 ends_line b = (b == 0x0A) || (b == 0x0D)
 
--- how many bytes stand before the first line end
+-- the number of bytes before the first line end
 abbrev pub line_len : Text → ℕ
 line_len text = position_or_len ends_line text
 
--- how many bytes the line end in front of a text has: a carriage return and a line feed are one
+-- the number of bytes of a line end at the front: a carriage return with a line feed is one line
+-- end
 abbrev pub end_len : Text → ℕ
 end_len [] = 0
 end_len (a ∷ []) = if ends_line a then 1 else 0
@@ -21,17 +22,17 @@ end_len (a ∷ b ∷ rest) = if (a == 0x0D) && (b == 0x0A) then 2 else if ends_l
 abbrev pub first_line : Text → Text
 first_line text = take (line_len text) text
 
--- what follows the first line and its end
+-- the text after the first line and its end
 abbrev pub below_line : Text → Text
 below_line text =
     let rest = drop (line_len text) text in
     drop (end_len rest) rest
 
--- what follows that many lines
+-- the text after the first `count` lines
 abbrev pub below_lines : ℕ → Text → Text
 below_lines zero text = text
 below_lines (suc count) text = below_lines count (below_line text)
 
--- a text ends in this way
+-- a text ends with `end`
 abbrev pub EndsIn : Text → Text → Type 0
 EndsIn text end = (front : Text) × (text ≡ front ++ end)

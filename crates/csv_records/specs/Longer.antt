@@ -1,4 +1,4 @@
--- Records that have more fields than the first one.
+-- Records that have more fields than the first record.
 -- Source: this library's own.
 use Rattle.std.specs.Prelude.{ℕ, zero, suc, ◌-◌, ◌==◌, nat_lt, Bool, List, [], Option, None, drop, length, option_map, slice_get, take, unwrap_or}
 use Rattle.std.specs.List.{count_by, position, prefix_len, suffix_len}
@@ -16,24 +16,24 @@ use Rattle.csv_records.specs.declared.delimiter.Delimiter.TheVariants.{Spaces}
 use Rattle.csv_records.specs.declared.longer.LongRecords.{LongRecords}
 use Rattle.csv_records.specs.declared.options.InputOptions.{InputOptions}
 
--- ---- where a record begins
+-- ---- lines of records
 
--- a text without the line ends in front
+-- a text without the line ends at its front
 abbrev pub skip_newlines : Text → Text
 skip_newlines text = drop (prefix_len ends_line text) text
 
--- what follows the first record of a text
+-- the text after the first record
 abbrev pub skip_record : Config → Text → Text
 skip_record config text =
     option_map_or (λ found. found.2) (next_record config st.StartRecord [] [] text) []
 
--- a text from the record on before which so many stand
+-- the text from the record after the first `before` ones
 abbrev pub skip_records : Config → ℕ → Text → Text
 skip_records config zero text = skip_newlines text
 skip_records config (suc before) text = skip_records config before (skip_record config text)
 
--- the number of the line in which that record of a text begins, which stands below the lines that
--- are left out
+-- the number of the line in which a record begins that has `before` records above it. The lines
+-- that are left out are counted too.
 abbrev pub line_of_record : InputOptions → Text → ℕ → ℕ
 line_of_record options text before =
     let config = config_for (parted options text).0 (reads_quotes options) in
@@ -42,20 +42,20 @@ line_of_record options text before =
 
 -- ---- records with more fields
 
--- how many fields the record at a position has
+-- the number of fields of the record at a position
 abbrev pub field_count : List (List Text) → ℕ → ℕ
 field_count records at = length (unwrap_or (slice_get records at) [])
 
--- how many fields a record has up to the last that isn't empty
+-- the number of fields of a record up to the last that isn't empty
 abbrev pub filled_len : List Text → ℕ
 filled_len fields = length fields - suffix_len (λ field. length field == 0) fields
 
--- a record has more fields than the first of some, also without the empty ones at its end
+-- true if a record has more fields than the first of `records`, not counting empty ones at its end
 abbrev pub is_longer : List (List Text) → List Text → Bool
 is_longer records fields = nat_lt (field_count records 0) (filled_len fields)
 
--- those records: the line and the fields of the first of them, how many others there are, and
--- whether these are all that follow
+-- a report of these records: the line and the fields of the first of them, the number of the
+-- others, and true if the others are all that follow
 abbrev pub longer_at : (ℕ → ℕ) → List (List Text) → ℕ → LongRecords
 longer_at line_of records at =
     record {
@@ -70,8 +70,7 @@ abbrev pub longer_by : (ℕ → ℕ) → List (List Text) → Option LongRecords
 longer_by line_of records =
     option_map (longer_at line_of records) (position (is_longer records) records)
 
--- those of a text; none has more fields if spaces part them, since the last column then takes all
--- that is left of a line
+-- the report, but none if spaces part the fields: the last column then takes the rest of its line
 abbrev pub unless_spaces : {T : Type 0} → Delimiter → Option T → Option T
 unless_spaces Spaces longer = None
 unless_spaces _ longer = longer

@@ -1,4 +1,4 @@
--- Which fields are numbers.
+-- Fields that are numbers.
 -- Source: this library's own; ISO 4217 and Unicode's category Sc for currencies.
 use Prim.Native.String.{String}
 use Rattle.std.specs.Prelude.{ℕ, Bool, true, false, ◌+◌, ◌-◌, ◌==◌, ◌&&◌, ◌||◌, not, nat_le, nat_lt, List, [], ◌∷◌, length, map, take, drop, Option, Some, None, option_map, bytes_eq, chars, codes, is_some, if◌then◌else◌}
@@ -19,17 +19,17 @@ is_sign c = (c == 0x2D) || ((c == 0x2B) || (c == 0x2212))
 abbrev pub is_blank : ℕ → Bool
 is_blank c = (c == 0x20) || ((c == 0xA0) || (c == 0x202F))
 
--- the general category is Sc, a currency's
+-- true if the general category is Sc, currency symbols
 abbrev pub is_currency : ℕ → Bool
 is_currency c = general_category_number (general_category c) == 19
 
--- a space that may stand around a field: one of these, TAB, line feed or carriage return
+-- a space that may surround a field: a blank, TAB, line feed or carriage return
 abbrev pub is_space : ℕ → Bool
 is_space c = is_blank c || ((c == 0x09) || ((c == 0x0A) || (c == 0x0D)))
 
 -- ---- the ends of a list
 
--- from the first element on that doesn't pass, and up to the last
+-- a list from its first element that doesn't pass, and up to its last one
 abbrev pub from_other : (ℕ → Bool) → List ℕ → List ℕ
 from_other p xs = drop (prefix_len p xs) xs
 
@@ -38,32 +38,32 @@ to_other p xs = take (length xs - suffix_len p xs) xs
 
 -- ---- the ends of a text
 
--- the first character passes
+-- true if the first character passes
 abbrev pub begins : (ℕ → Bool) → List ℕ → Bool
 begins p [] = false
 begins p (c ∷ cs) = p c
 
--- the last character passes
+-- true if the last character passes
 abbrev pub ends : (ℕ → Bool) → List ℕ → Bool
 ends p [] = false
 ends p (c ∷ []) = p c
 ends p (c ∷ d ∷ cs) = ends p (d ∷ cs)
 
--- a text without its first character, and without its last
+-- a text without its first character, and without its last one
 abbrev pub without_first : Text → Text
 without_first text = encode_utf8_all (drop 1 (chars text))
 
 abbrev pub without_last : Text → Text
 without_last text = encode_utf8_all (take (length (chars text) - 1) (chars text))
 
--- what follows such a character at the front, and what stands before such a character at the end
+-- a text without its first character if that passes, and without its last one if that passes
 abbrev pub behind : (ℕ → Bool) → Text → Text
 behind p text = if begins p (chars text) then without_first text else text
 
 abbrev pub before : (ℕ → Bool) → Text → Text
 before p text = if ends p (chars text) then without_last text else text
 
--- a field without spaces in front, behind, and on both ends
+-- a field without spaces at its front, at its end, and at both
 abbrev pub without_spaces_before : Text → Text
 without_spaces_before text = encode_utf8_all (from_other is_space (chars text))
 
@@ -73,18 +73,18 @@ without_spaces_behind text = encode_utf8_all (to_other is_space (chars text))
 abbrev pub trimmed : Text → Text
 trimmed field = without_spaces_behind (without_spaces_before field)
 
--- what stands on both sides of the first place of an ASCII character
+-- the texts before and after the first occurrence of an ASCII character
 abbrev pub halves : ℕ → Text → Option (Text × Text)
 halves mark text =
     option_map (λ at. (take at text, drop (at + 1) text)) (position (λ b. b == mark) text)
 
 -- ---- digits
 
--- digits, at least one
+-- true for one digit or more
 abbrev pub is_digits : Text → Bool
 is_digits text = nat_lt 0 (length text) && list_all is_ascii_digit text
 
--- a group of a size has this many digits, the first one also fewer
+-- true if a group of a size may have this number of digits: the first group may have fewer
 abbrev pub is_group_len : ℕ → Bool → ℕ → Bool
 is_group_len size is_first count =
     if is_first then nat_lt 0 count && nat_le count size else count == size
@@ -98,16 +98,16 @@ are_groups size [] = false
 are_groups size (first ∷ others) =
     is_group size true first && list_all (is_group size false) others
 
--- digits in groups of a size, separated by a character
+-- true for digits in groups of a size that are separated by this character
 abbrev pub is_grouped : ℕ → ℕ → Text → Bool
 is_grouped size mark text = are_groups size (slice_split (λ c. c == mark) (chars text))
 
--- Indian groups, as in `12,34,567`: all digits except the last are in groups of two
+-- true for Indian groups, as in `12,34,567`: all digits except the last are in groups of two
 unfoldable pub has_indian_groups : Text → Bool
 has_indian_groups text =
     ends is_ascii_digit (chars text) && is_grouped 2 0x2C (without_last text)
 
--- the characters that part groups: `,`, `.`, `_`, `'`, a space, U+00A0 and U+202F
+-- the characters that separate groups: `,`, `.`, `_`, `'`, a space, U+00A0 and U+202F
 abbrev pub group_marks : List ℕ
 group_marks = 0x2C ∷ 0x2E ∷ 0x5F ∷ 0x27 ∷ 0x20 ∷ 0xA0 ∷ 0x202F ∷ []
 
@@ -115,11 +115,11 @@ abbrev pub has_groups : Text → Bool
 has_groups text =
     list_any (λ mark. is_grouped 3 mark text) group_marks || has_indian_groups text
 
--- a number of at most 255
+-- true for a number of at most 255
 abbrev pub is_octet : Text → Bool
 is_octet text = is_some (number_for 8 text)
 
--- four of them, parted by points
+-- true for four such numbers, separated by points
 abbrev pub is_address : Text → Bool
 is_address text =
     (length (slice_split (λ b. b == 0x2E) text) == 4)
@@ -127,7 +127,7 @@ is_address text =
 
 -- ---- numbers
 
--- digits before a mark and behind it, of which one may be missing
+-- true for digits before and after a mark, of which one side may be empty
 abbrev pub are_parted_digits : Text → Text → Bool
 are_parted_digits whole rest =
     list_all is_ascii_digit whole && not ((length whole == 0) && (length rest == 0))
@@ -136,34 +136,34 @@ abbrev pub has_groups_before : Option (Text × Text) → Bool
 has_groups_before None = false
 has_groups_before (Some (whole, rest)) = has_groups whole
 
--- digits behind a decimal mark, and digits or groups before it
+-- true for digits after a decimal mark, and digits or groups before it
 abbrev pub is_fraction : Option (Text × Text) → Bool
 is_fraction None = false
 is_fraction (Some (whole, rest)) =
     list_all is_ascii_digit rest && (are_parted_digits whole rest || has_groups whole)
 
--- a number without sign, exponent and unit
+-- true for a number without sign, exponent and unit
 abbrev pub is_decimal : Text → Bool
 is_decimal text =
     (is_digits text || (is_fraction (halves 0x2E text) || is_fraction (halves 0x2C text)))
     || (has_groups text && not (is_address text))
 
--- digits behind a sign, or without one
+-- true for digits after a sign, or without one
 abbrev pub is_exponent : Text → Bool
 is_exponent text = is_digits (behind is_sign text)
 
--- a decimal, and its exponent
+-- true for a decimal and its exponent
 abbrev pub is_scientific : Option (Text × Text) → Bool
 is_scientific None = false
 is_scientific (Some (decimal, exponent)) = is_decimal decimal && is_exponent exponent
 
--- `0` and a digit are in front: a name, as `0042`
+-- true if a text begins with `0` and a digit: then it is a name, as `0042`
 abbrev pub is_name : Text → Bool
 is_name [] = false
 is_name (a ∷ []) = false
 is_name (a ∷ b ∷ rest) = (a == 0x30) && is_ascii_digit b
 
--- a number without sign and unit
+-- true for a number without sign and unit
 abbrev pub is_figure : Text → Bool
 is_figure text =
     not (is_name text)
@@ -171,7 +171,7 @@ is_figure text =
 
 -- ---- currencies and units
 
--- one of these words
+-- true if a text is one of these words
 abbrev pub is_among : List Text → Text → Bool
 is_among words text = list_any (λ word. bytes_eq text word) words
 
@@ -199,19 +199,19 @@ currency_codes =
 abbrev pub is_code : Text → Bool
 is_code text = is_among currency_codes text
 
--- a single character, and it passes
+-- true for a single character that passes
 abbrev pub is_one : (ℕ → Bool) → List ℕ → Bool
 is_one p [] = false
 is_one p (c ∷ []) = p c
 is_one p (c ∷ d ∷ cs) = false
 
--- a currency: its character, its code or its name
+-- true for a currency: its character, its code or its name
 abbrev pub is_money : Text → Bool
 is_money text =
     is_one is_currency (chars text)
     || (is_code text || is_among (codes "R$" ∷ codes "kr" ∷ []) text)
 
--- a unit of sizes: a byte, or a multiple of it
+-- true for a unit of sizes: a byte, or a multiple of it
 abbrev pub is_size : Text → Bool
 is_size [] = false
 is_size (c ∷ rest) =
@@ -219,7 +219,7 @@ is_size (c ∷ rest) =
     || (list_any (λ letter. c == letter) (codes "kKMGTPE")
     && is_among ([] ∷ codes "B" ∷ codes "i" ∷ codes "iB" ∷ []) rest)
 
--- a unit of times; U+00B5 and U+03BC are letters for millionths
+-- units of time; U+00B5 and U+03BC are both in use as the letter for millionths
 abbrev pub times : List Text
 times =
     codes "ns" ∷ codes "us" ∷ encode_utf8_all (0xB5 ∷ 0x73 ∷ [])
@@ -229,29 +229,29 @@ times =
 abbrev pub is_time : Text → Bool
 is_time text = is_among times text
 
--- what a number is counted in
+-- true for a unit: percent, a size, a time or a currency
 abbrev pub is_unit : Text → Bool
 is_unit text = bytes_eq text (codes "%") || (is_size text || (is_time text || is_money text))
 
 -- ---- a figure in its field
 
--- a digit or a decimal mark
+-- true for a digit or a decimal mark
 abbrev pub is_inner : ℕ → Bool
 is_inner b = is_ascii_digit b || ((b == 0x2E) || (b == 0x2C))
 
 abbrev pub is_outer : ℕ → Bool
 is_outer b = not (is_inner b)
 
--- one of them, or a sign of ASCII
+-- true for a digit, a decimal mark, or a sign of ASCII
 abbrev pub is_written : ℕ → Bool
 is_written b = is_inner b || ((b == 0x2D) || (b == 0x2B))
 
--- what follows such a sign, or all
+-- a text without a sign of ASCII at its front
 abbrev pub unsigned : Text → Text
 unsigned [] = []
 unsigned (b ∷ bs) = if (b == 0x2D) || (b == 0x2B) then bs else b ∷ bs
 
--- what stands before the first of them, from there to the last, and behind it
+-- the text before the first digit or decimal mark, from there to the last one, and after that
 abbrev pub front_of : Text → Text
 front_of text = take (prefix_len is_outer text) text
 
@@ -261,39 +261,40 @@ figure_of text = to_other is_outer (from_other is_outer text)
 abbrev pub back_of : Text → Text
 back_of text = drop (length (figure_of text)) (from_other is_outer text)
 
--- behind a figure: nothing, or a unit, also behind a blank
+-- true for a text that may follow a figure: nothing, or a unit, also after a blank
 abbrev pub is_end : Text → Bool
 is_end back = (length back == 0) || is_unit (behind is_blank back)
 
--- around a number without sign: a currency in front, or a unit behind, or neither
+-- true for texts that may surround a number without sign: a currency before it, or a unit after it,
+-- or nothing
 abbrev pub is_amount : Text → Text → Bool
 is_amount front back =
     if length front == 0
     then is_end back
     else (length back == 0) && is_money (before is_blank front)
 
--- around one without a sign in front: a minus may directly follow it, as in `1.250,00-`, or a sign
--- stands behind the currency
+-- true for texts around a figure whose sign isn't at the front. A minus may directly follow the
+-- figure, as in `1.250,00-`, or a sign may follow the currency.
 abbrev pub is_signed_later : Text → Text → Bool
 is_signed_later front back =
     if begins (λ c. c == 0x2D) (chars back)
     then is_amount front (without_first back)
     else is_amount (before is_sign front) back
 
--- around one with a sign or without
+-- true for texts that may surround a figure with a sign, or without one
 abbrev pub is_signed : Text → Text → Bool
 is_signed front back =
     if begins is_sign (chars front)
     then is_amount (without_first front) back
     else is_signed_later front back
 
--- around one in parentheses
+-- true for texts around a figure in parentheses
 abbrev pub is_enclosed : Text → Text → Bool
 is_enclosed front back =
     (begins (λ c. c == 0x28) (chars front) && ends (λ c. c == 0x29) (chars back))
     && is_amount (without_first front) (without_last back)
 
--- a figure between these, without spaces around it all
+-- true for a figure between such texts, without spaces at its ends
 abbrev pub is_bare_number : Text → Bool
 is_bare_number text =
     (is_signed (front_of text) (back_of text) || is_enclosed (front_of text) (back_of text))
@@ -302,13 +303,13 @@ is_bare_number text =
 unfoldable pub is_number : Text → Bool
 is_number field = is_bare_number (trimmed field)
 
--- ---- fields that say nothing
+-- ---- neutral fields
 
--- the same word, in any case of letters
+-- true for the same word, in letters of either case
 abbrev pub is_word : Text → Text → Bool
 is_word word text = bytes_eq (map to_ascii_lowercase text) (map to_ascii_lowercase word)
 
--- a word for a missing value
+-- true for a word that marks a missing value
 abbrev pub is_missing : Text → Bool
 is_missing text =
     list_any (λ word. is_word word text)
@@ -325,7 +326,7 @@ dashes =
 abbrev pub is_dash : Text → Bool
 is_dash text = is_among dashes text
 
--- nothing, a dash, or a word for a missing value behind a sign or without one
+-- true for nothing, a dash, or a word for a missing value, with a sign or without one
 abbrev pub is_bare_neutral : Text → Bool
 is_bare_neutral text =
     ((length text == 0) || is_dash text) || is_missing (behind is_sign text)

@@ -6,12 +6,12 @@ use Rattle.std.specs.List.{list_all}
 use Rattle.std.specs.Str.Parse.{digits_value}
 use Rattle.comfy_parts.specs.Text.{Text}
 
--- digits alone, of a number of so many bits
+-- true for digits alone, if their number has at most `bits` bits
 abbrev pub is_numeral : ℕ → Text → Bool
 is_numeral bits word =
     (list_all is_ascii_digit word && nat_lt 0 (length word))
     && nat_lt (digits_value 10 word) (2 ^ bits)
 
--- that number
+-- the number of these digits, or `None` if they are too large or no digits
 abbrev pub number_for : ℕ → Text → Option ℕ
 number_for bits word = if is_numeral bits word then Some (digits_value 10 word) else None

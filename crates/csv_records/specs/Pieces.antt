@@ -1,4 +1,4 @@
--- Private: the pieces of a field, as they are found.
+-- Private: the pieces of a field, as the code finds them.
 -- Source: this library's own.
 use Rattle.comfy_parts.specs.Cursor.{sequence_part, visible_part}
 use Rattle.comfy_parts.specs.VisibleText.{Part}

@@ -5,8 +5,8 @@ use Rattle.std.specs.Str.{encode_utf8_all}
 use Rattle.comfy_parts.specs.Text.{Text}
 use Rattle.csv_records.specs.Cleaning.{shown}
 
--- a character as it is said: U+FFFD for a control character and for one that turns the direction of
--- text, but line feeds where they are kept
+-- a character as it is written in a message. U+FFFD replaces a control character, and a character
+-- that turns the direction of text. A line feed is kept if `keeps_breaks` is true.
 abbrev pub shown_in : Bool → ℕ → ℕ
 shown_in keeps_breaks c = if keeps_breaks && (c == 0x0A) then c else shown c
 

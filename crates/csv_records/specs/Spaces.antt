@@ -1,4 +1,4 @@
--- Texts whose fields stand between runs of spaces and TABs.
+-- Texts whose fields are separated by runs of spaces and TABs.
 -- Source: this library's own.
 use Rattle.std.specs.Prelude.{ℕ, zero, suc, ◌+◌, ◌-◌, ◌==◌, ◌&&◌, ◌||◌, not, nat_le, Bool, true, false, List, [], ◌∷◌, ◌++◌, Option, Some, None, bytes_eq, codes, drop, flat_map, fold, map, max, min, take, if◌then◌else◌, length}
 use Rattle.std.specs.List.{filter, list_any, position_or_len, prefix_len, slice_split, suffix_len}
@@ -6,11 +6,12 @@ use Rattle.std.specs.Char.{is_ascii_whitespace}
 use Rattle.comfy_parts.specs.Text.{Text}
 use Rattle.csv_records.specs.BelowNames.{columns_text, name_starts}
 
--- a space or a TAB
+-- true for a space or a TAB
 abbrev pub is_gap : ℕ → Bool
 is_gap b = (b == 0x20) || (b == 0x09)
 
--- the first field of a line, and what stands behind the gap that follows it
+-- the first field of a line; a line without the gap at its front; and the text after the first
+-- field and its gap
 abbrev pub first_field : Text → Text
 first_field line = take (position_or_len is_gap line) line
 
@@ -20,7 +21,7 @@ behind_gap line = drop (prefix_len is_gap line) line
 abbrev pub behind_field : Text → Text
 behind_field line = behind_gap (drop (position_or_len is_gap line) line)
 
--- how many gaps stand in a line, of which one is begun or isn't
+-- the number of gaps that begin in a line; `begun` is true if the byte before it is in a gap
 abbrev pub gaps_from : Bool → Text → ℕ
 gaps_from begun [] = 0
 gaps_from begun (b ∷ bs) = (if is_gap b && not begun then 1 else 0) + gaps_from (is_gap b) bs
@@ -36,7 +37,7 @@ abbrev pub filled_lines : Text → List Text
 filled_lines text =
     filter (λ line. not (length (trimmed_line line) == 0)) (slice_split (λ b. b == 0x0A) text)
 
--- a line as `total 92`, which `ls -l` writes above its list
+-- true for a line such as `total 92`, which `ls -l` writes above its list
 abbrev pub begins_with_digit : Text → Bool
 begins_with_digit [] = false
 begins_with_digit (b ∷ rest) = nat_le 0x30 b && nat_le b 0x39
@@ -45,16 +46,16 @@ abbrev pub is_total : Text → Bool
 is_total line =
     bytes_eq (first_field line) (codes "total") && begins_with_digit (behind_field line)
 
--- how many gaps a line has
+-- the number of gaps of a line
 abbrev pub line_gaps : Text → ℕ
 line_gaps line = gaps_from false (trimmed_line line)
 
--- how many gaps the fullest of some lines has
+-- the greatest number of gaps of a line
 abbrev pub most_gaps : List Text → ℕ
 most_gaps [] = 0
 most_gaps (line ∷ lines) = max (line_gaps line) (most_gaps lines)
 
--- how many gaps the line of some lines has that has the fewest
+-- the number of gaps of the line with the fewest gaps
 abbrev pub fewest_gaps : List Text → ℕ
 fewest_gaps [] = 0
 fewest_gaps (line ∷ lines) = fold min (line_gaps line) (map line_gaps lines)
@@ -64,19 +65,20 @@ abbrev pub is_indented : Text → Bool
 is_indented [] = false
 is_indented (b ∷ rest) = is_gap b
 
--- the first column has no name, as in what `free` writes: the first line alone begins with a gap,
--- and the fullest below it has one field more
+-- true if the first column has no name, as in the output of `free`: only the first line begins with
+-- a gap, and the fullest line below it has one field more
 abbrev pub lacks_name : List Text → Bool
 lacks_name [] = false
 lacks_name (first ∷ others) =
     (is_indented first && not (list_any is_indented others))
     && (most_gaps others - line_gaps first == 1)
 
--- the gap behind such a name
+-- the gap after the missing name
 abbrev pub name_gap : List Text → Text
 name_gap lines = if lacks_name lines then 0x09 ∷ [] else []
 
--- how many gaps part columns: as many as the first line has, and no more than the fullest below it
+-- the number of gaps that separate columns: that of the first line, or of the fullest line below it
+-- if that is smaller
 abbrev pub column_gaps : List Text → ℕ
 column_gaps [] = 0
 column_gaps (first ∷ []) = line_gaps first
@@ -85,11 +87,11 @@ column_gaps (first ∷ other ∷ others) =
     then most_gaps (other ∷ others)
     else min (line_gaps first) (most_gaps (other ∷ others))
 
--- with spaces for its TABs
+-- a line with spaces in place of its TABs
 abbrev pub spaced : Text → Text
 spaced line = map (λ b. if b == 0x09 then 0x20 else b) line
 
--- a line with TABs for its first gaps, at most so many: its last field is all that is left
+-- a line with TABs in place of its first `gaps` gaps; its last field is the rest of the line
 abbrev pub tabbed_line : ℕ → Text → Text
 tabbed_line zero line = spaced line
 tabbed_line (suc gaps) line =

@@ -1,4 +1,4 @@
--- Private: a reader of records that has read none.
+-- Private: a reader of records that hasn't read any.
 -- Source: this library's own.
 use Rattle.std.specs.Borrow.{Bor}
 use Rattle.std.specs.Prelude.{◌≡◌, ℕ, Bool, true, Some}
@@ -9,8 +9,7 @@ use Rattle.csv.specs.declared.reader.Reader.{Reader}
 use Rattle.csv.specs.declared.reader.Trim.TheVariants as trim
 use Rattle.csv_records.specs.Input.{config_for}
 
--- it reads a text, whose fields stand between delimiters, and whose records may differ in their
--- number
+-- It reads a text with this delimiter. Records may differ in their number of fields.
 pub record IsStarted (delimiter : ℕ) (has_quotes : Bool) (text : Text)
     (reader : Reader (Bor Text)) : Type 0 where
   pub trim : reader.trim ≡ trim.None

@@ -144,7 +144,7 @@ impl Fields {
         (&self.bytes.as_slice()[start..end], end)
     }
 
-    /// Makes room for more fields of so many bytes in all.
+    /// Makes room for `count` more fields with `bytes` bytes in all.
     pub(crate) fn reserve(&mut self, count: usize, bytes: usize) -> Result<(), AllocError>
         ensures { self.new ≡ self.old }
     {

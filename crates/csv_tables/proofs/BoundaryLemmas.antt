@@ -1,4 +1,4 @@
--- A column with a lower boundary is drawn no narrower than a text that fits the boundary.
+-- A column with a lower boundary is drawn at least as wide as a text that fits the boundary.
 use Rattle.std.proofs.Common.{◌≡◌, ◌<◌, ◌≤◌, ◌==◌, ◌&&◌, ℕ, ◌+◌, ◌-◌, ◌*◌, ◌/◌, Bool, not, List, [], ◌∷◌, ◌++◌, Option, Some, None, filter, is_none, length, max, nat_le, nat_lt, option_map, refl, sym, ap, ◌∙◌, subst, arith}
 use Rattle.std.specs.List.{AllByRecursion, AllZip, cons_option}
 use Rattle.std.specs.Prelude.{if◌then◌else◌}
@@ -19,22 +19,23 @@ use Rattle.comfy_table.specs.Widths.{ColumnNeeds, even_spread}
 
 -- ---- what is kept
 
--- a width has room for a text that fits a lower boundary, and the content, and isn't broken in a wider column
+-- a width has room for a text that fits the lower boundary and the content, if wrapping in a wider column leaves the
+-- text whole
 abbrev pub KeepsBoundary : ColumnNeeds → ℕ → Type 0
 KeepsBoundary column width =
     (m l : ℕ) → column.lower ≡ Some l → column.upper ≡ None → ((x : ℕ) → column.fixed ≡ Some x → m ≤ x) → m + column.padding ≤ l → m ≤ column.content → ((n : ℕ) → m ≤ n → m ≤ max 1 (column.longest n)) → m ≤ width
 
--- a boundary that is taken has that room
+-- a boundary that is taken as a width has this room
 taken-keeps : (b : ℕ) (column : ColumnNeeds) (width : ℕ) → lower_of_boundary b column.padding column.lower ≡ Some width → KeepsBoundary column width
 taken-keeps b column width is m l lower upper fixed enough content longest =
     let own : (if nat_lt b l then Some (max 1 (l - column.padding)) else None) ≡ Some width = ap (lower_of_boundary b column.padding) (sym lower) ∙ is in
     grind (arith, own, enough)
 
--- one that isn't is no greater than the average
+-- a boundary that isn't taken is at most the average
 passed : (b padding l : ℕ) → lower_of_boundary b padding (Some l) ≡ None → l ≤ b
 passed b padding l is = grind arith
 
--- a content that a level settles has it too
+-- a content width that a level settles has this room too
 settled-keeps : (level : Option ℕ) (column : ColumnNeeds) (width : ℕ) → settled_at level column ≡ Some width → KeepsBoundary column width
 settled-keeps None column width is m l lower upper fixed enough content longest = absurd (cc is)
 settled-keeps (Some level) column width is m l lower upper fixed enough content longest =
@@ -43,7 +44,7 @@ settled-keeps (Some level) column width is m l lower upper fixed enough content 
 
 -- ---- a level
 
--- what a level settles is within it
+-- a content width that a level settles is at most the level
 settled-most : (level width : ℕ) (column : ColumnNeeds) → 1 ≤ level → settled_at (Some level) column ≡ Some width → width ≤ level
 settled-most level width column one is = by_upper column.upper is
   where
@@ -63,11 +64,11 @@ settled-within level n (p ∷ more) one = by_offer (settled_at (Some level) p.1)
     by_offer None most own = own
     by_offer (Some width) most own = let one_more = most width refl in omega (arith, own, one_more, sum_by-cons (λ (t : Claim). t.1) (p.0, width) claims)
 
--- a claim of a column at its place is as R wants it
+-- a claim of a column at its position keeps the boundary of that column
 claim_for : (columns : List ColumnNeeds) (p : Positioned) (width : ℕ) → IsColumnAt columns p → KeepsBoundary p.1 width → IsClaimFor KeepsBoundary columns (p.0, width)
 claim_for columns p width at holds column same = let one : p.1 ≡ column = cc (at, same) in subst (λ (c : ColumnNeeds). KeepsBoundary c width) one holds
 
--- claims that are taken one after another
+-- claims that are taken one after another keep the boundaries
 module _ (columns : List ColumnNeeds) (candidates : List Positioned) (offer : List Claim → Positioned → Option ℕ) (each : AllByRecursion (IsColumnAt columns) candidates)
     (gives : (taken : List Claim) (p : Positioned) (width : ℕ) → offer taken p ≡ Some width → KeepsBoundary p.1 width) where
   every_taken : (from : ℕ) (taken order : List Claim) → IsTakenAfter candidates offer from taken order → AllByRecursion (IsClaimFor KeepsBoundary columns) order
@@ -76,12 +77,12 @@ module _ (columns : List ColumnNeeds) (candidates : List Positioned) (offer : Li
       let next = next_taken-where candidates offer (IsColumnAt columns) from taken t (every-filter (IsColumnAt columns) (λ (p : Positioned). not (has_claim taken p.0)) candidates each) goes.0 in
       (claim_for columns (t.0, next.column) t.1 next.left (gives taken (t.0, next.column) t.1 next.offered), every_taken t.0 (taken ++ t ∷ []) more goes.1)
 
--- some of a list are no more than all
+-- a filtered list is at most as long as the list
 length-filtered : {X : Type 0} (passes : X → Bool) (xs : List X) → length (filter passes xs) ≤ length xs
 length-filtered passes [] = omega arith
 length-filtered passes (x ∷ xs) = grind (arith, length-filtered passes xs)
 
--- the level, or nothing
+-- the level, or 0 without a level
 abbrev floor : Option ℕ → ℕ
 floor None = 0
 floor (Some level) = level
@@ -107,11 +108,11 @@ module _ (room : ℕ) (columns : List ColumnNeeds) (full : Bool) (steps : Steps)
   abbrev even_count : ℕ
   even_count = length (even_columns room columns steps)
 
-  -- what the columns get at the average that lower boundaries leave
+  -- the average room of the columns after lower boundaries have taken theirs
   abbrev share : ℕ
   share = rest_room / length rest
 
-  -- a column at its place, whose boundary is within that
+  -- a column at its position, whose boundary is at most this average
   abbrev IsPassed : Positioned → Type 0
   IsPassed p = IsColumnAt columns p × ((l : ℕ) → p.1.lower ≡ Some l → l ≤ share)
 
@@ -135,7 +136,7 @@ module _ (room : ℕ) (columns : List ColumnNeeds) (full : Bool) (steps : Steps)
   counts : length (settled_claims steps.level rest) + length left ≡ length rest
   counts = length-without (settled_claims steps.level rest) rest (one_others room columns full steps widths arranged) (among_settled room columns full steps widths arranged)
 
-  -- the level has room, and is that at least, if it leaves columns
+  -- the level has room, and is at least the average if it leaves columns undecided
   level_is : HasRoom left_room left (floor steps.level) [] × (0 < length left → share ≤ floor steps.level)
   level_is = by_level steps.level refl
     where
@@ -205,7 +206,7 @@ module _ (room : ℕ) (columns : List ColumnNeeds) (full : Bool) (steps : Steps)
       enough_left : floor steps.level * even_count ≤ spread
       enough_left = let has = taken.1 in omega (arith, has)
 
-  -- each content keeps its boundary
+  -- each content width keeps its boundary
   contents_keep : AllZip KeepsBoundary columns (contents_after room columns steps)
   contents_keep =
       all_zip-contents KeepsBoundary columns (all_claims room columns steps) 0 columns
@@ -217,7 +218,7 @@ module _ (room : ℕ) (columns : List ColumnNeeds) (full : Bool) (steps : Steps)
       (every-append (IsClaimFor KeepsBoundary columns) (settled_claims steps.level rest) (steps.shrunk ++ even_shares room columns steps) settled_for
       (every-append (IsClaimFor KeepsBoundary columns) steps.shrunk (even_shares room columns steps) shrunk_for even_for))))
 
--- what is added leaves them so
+-- added widths keep the boundaries too
 added_keeps : (columns : List ColumnNeeds) (xs ys : List ℕ) → length ys ≡ length columns → AllZip KeepsBoundary columns xs → AllZip KeepsBoundary columns (added xs ys)
 added_keeps [] [] ys same each = tt
 added_keeps [] (x ∷ xs) ys same each = absurd each
@@ -228,7 +229,7 @@ added_keeps (column ∷ more) (x ∷ xs) (y ∷ ys) same each = (
   added_keeps more xs ys (omega (arith, same)) each.1,
 )
 
--- so each width does
+-- so each width keeps its boundary
 pub dynamic_keeps_boundaries : (room : ℕ) (columns : List ColumnNeeds) (full : Bool) (widths : List ℕ) → IsDynamicLayout room columns full widths → AllZip KeepsBoundary columns widths
 dynamic_keeps_boundaries room columns full widths (steps, arranged) =
     let contents = contents_keep room columns full steps widths arranged in

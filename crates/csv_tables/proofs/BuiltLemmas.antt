@@ -33,14 +33,14 @@ all_below P true [] each = each
 all_below P true (names ∷ rows) each = All-tail P names rows each
 all_below P false records each = each
 
--- what each field meets, a missing one meets where the empty text does
+-- a property of all fields and of the empty text is one of the field at any position
 pub each_field : (P : Text → Type 0) → P [] → (fields : List Text) (i : ℕ) → All P fields → P (field_or_blank fields i)
 unfolding field_at
 each_field P empty [] i each = empty
 each_field P empty (f ∷ fs) zero each = All-head P f fs each
 each_field P empty (f ∷ fs) (suc i) each = each_field P empty fs i (All-tail P f fs each)
 
--- and a name, where the number that stands for a missing one does
+-- a property of all names, and of the number in place of a missing one, is one of the name at any position
 pub each_name : (P : Text → Type 0) (names : List Text) (i : ℕ) → P (decimal (i + 1)) → All P names → P (name_at names i)
 unfolding field_at
 each_name P names i number each = by_field names i each
@@ -50,14 +50,15 @@ each_name P names i number each = by_field names i each
     by_field (f ∷ fs) zero each = All-head P f fs each
     by_field (f ∷ fs) (suc j) each = by_field fs j (All-tail P f fs each)
 
--- P holds of what columns show of a record
+-- P holds for the texts that columns show of a record
 abbrev pub EachColumn : (Text → Type 0) → Look → Bool → List ColumnPlan → List Text → Type 0
 EachColumn P look is_aligned columns fields = All (λ (column : ColumnPlan). P (text_in look is_aligned column fields)) columns
 
 pub plain_columns : (P : Text → Type 0) → P [] → (look : Look) (columns : List ColumnPlan) (fields : List Text) → All P fields → EachColumn P look false columns fields
 plain_columns P empty look columns fields each = All-every (λ (column : ColumnPlan). P (text_in look false column fields)) columns (λ column. each_field P empty fields column.position each)
 
--- P holds of each text that a row shows, where it does of its fields, of no text, and of short texts of printable ASCII
+-- P holds for each text that a row shows, if it holds for its fields, for the empty text, and for short texts of
+-- printable ASCII
 module _ (P : Text → Type 0) (empty : P []) (short : (text : Text) → IsShortPrintable 64 text → P text) where
   abbrev pub OfShown : Shown → Type 0
   OfShown shown = P shown.text
@@ -107,7 +108,7 @@ blank_drawn look = by_markdown look.is_markdown
 
 -- ---- what is drawn
 
--- P holds of the names, where there are any, and of each row
+-- P holds for the names, if there are any, and for each row
 pub record EachOf (P : List Text → Type 0) (content : SelectedValue) : Type 0 where
   pub names : (names : List Text) → content.names ≡ Some names → P names
   pub rows : All P content.rows
@@ -127,7 +128,7 @@ each_content P counted layout records content is each =
         subst P same (All-head P record_ records each)
     first false records names is each = absurd (cc is)
 
--- P holds of the names and the fields of a content, and of what its columns show of these
+-- P holds for the names and the fields of a selection, and for the texts that its columns show of them
 pub record EachShown (P : Text → Type 0) (look : Look) (is_aligned : Bool) (content : SelectedValue) : Type 0 where
   pub fields : EachOf (All P) content
   pub shown : All (EachColumn P look is_aligned content.columns) content.rows
@@ -136,7 +137,7 @@ pub plain_shown : (P : Text → Type 0) → P [] → (look : Look) (content : Se
 plain_shown P empty look content each =
     record { fields = each; shown = All-weaker (All P) (EachColumn P look false content.columns) (λ fields own. plain_columns P empty look content.columns fields own) content.rows each.rows }
 
--- so it does of each row with its number
+-- P holds for each row with its number
 pub each_counted : (P : List Text → Type 0) (number : ℕ) (rows : List (List Text)) → All P rows → All (λ (row : ℕ × List Text). P row.1) (counted_from number rows)
 each_counted P number [] each = All-nil (λ (row : ℕ × List Text). P row.1)
 each_counted P number (fields ∷ rows) each =
@@ -153,15 +154,15 @@ module _ (look : Look) (Q : RowValue → Type 0) (content : SelectedValue) where
   abbrev pub Built : TableValue → Type 0
   Built = IsBuilt (empty_table look) Q
 
-  -- Q holds of the row that is made of some fields and their number
+  -- Q holds for the row that is made of these fields and their number
   abbrev pub MakesRow : Bool → ℕ × List Text → Type 0
   MakesRow is_aligned row = Q (row_for look is_aligned content.is_numbered content.columns row)
 
-  -- and of the header
+  -- Q holds for the header
   abbrev pub MakesHeader : Type 0
   MakesHeader = (names : List Text) → content.names ≡ Some names → Q (header_for look content.is_numbered content.columns names)
 
-  -- and of the rows of a record that is expanded
+  -- Q holds for the rows of an expanded record
   abbrev pub MakesPairs : List Text → Type 0
   MakesPairs fields = All Q (pairs_in look content fields)
 

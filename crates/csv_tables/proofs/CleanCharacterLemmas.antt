@@ -27,7 +27,7 @@ pub record IsMadeOf (p : ℕ → Bool) (text : Text) : Type 0 where
   pub spell : encode_utf8_all characters ≡ text
   pub pass : list_all p characters ≡ true
 
--- so all its characters do
+-- all characters of such a text pass
 pub made_passes : (p : ℕ → Bool) (text : Text) → IsMadeOf p text → list_all p (chars text) ≡ true
 made_passes p text is = ap (λ (t : Text). list_all p (chars t)) (sym is.spell) ∙ ap (list_all p) (chars-encodes is.characters is.scalars) ∙ is.pass
 
@@ -55,7 +55,7 @@ module _ (p : ℕ → Bool) where
 
 -- ---- lines
 
--- the text lines of characters are made of those that aren't line feeds
+-- the text lines of characters have the characters that aren't line feeds
 module _ (p : ℕ → Bool) where
   abbrev or_feed : ℕ → Bool
   or_feed c = p c || (c == 0x0A)
@@ -151,7 +151,7 @@ module _ (p : ℕ → Bool) (space : p 0x20 ≡ true) (replacement : p 0xFFFD �
   cleaned_made field utf8 own =
       subst (λ (s : CleanedText). IsMadeOf q s.text) (sym (each_character (chars field) start)) (after-all (chars field) start (scalars-chars field utf8) own (made-nil q))
 
--- characters that pass in a field pass in the text lines that are drawn of it, where spaces and U+FFFD do
+-- if the characters of a field pass, and spaces and U+FFFD do, those of the drawn text lines pass too
 pub lines_pass : (p : ℕ → Bool) → p 0x20 ≡ true → p 0xFFFD ≡ true → (look : Look) → look.is_markdown ≡ false → look.has_sequences ≡ false → (field : Text) → IsUtf8 field → list_all p (chars field) ≡ true
     → EachLine (λ (line : Text). list_all p (chars line) ≡ true) look field
 lines_pass p space replacement look none unkept field utf8 own =

@@ -1,4 +1,4 @@
--- Tables whose rows stand elsewhere.
+-- Tables whose rows are made only when they are drawn.
 use Rattle.std.proofs.Common.{◌≡◌, ◌≤◌, ℕ, zero, suc, ◌+◌, ◌-◌, Bool, true, false, List, [], ◌∷◌, ◌++◌, Option, Some, None, drop, flat_map, length, map, max, arith, append-nil, append_assoc, refl, ap, ap₂, sym, subst, ◌∙◌, ⊎_elim}
 use Rattle.std.proofs.lemmas.Bool.{cases_lt}
 use Rattle.std.proofs.lemmas.List.{get_or_past, length-append, length-map}
@@ -23,18 +23,18 @@ use Rattle.csv_tables.specs.declared.rows.RecordRows.{RecordRows}
 
 -- ---- columns
 
--- columns as they grow to rows
+-- columns that have grown to rows
 abbrev grown : List RowValue → List ColumnValue → List ColumnValue
 grown rows columns = fold (λ (cs : List ColumnValue) (row : RowValue). columns_grown_to (length row.cells) cs) columns rows
 
--- a table with further rows
+-- a table with more rows
 with_rows-grown : (rows : List RowValue) (t : TableValue) → with_rows rows t ≡ with_other_rows (t.rows ++ rows) (record t { columns = grown rows t.columns })
 with_rows-grown [] t = ap (λ (rows : List RowValue). with_other_rows rows t) (sym (append-nil t.rows))
 with_rows-grown (row ∷ rows) t =
     with_rows-grown rows (with_row row t)
     ∙ ap (λ (all : List RowValue). with_other_rows all (record t { columns = grown (row ∷ rows) t.columns })) (append_assoc t.rows (row ∷ []) rows)
 
--- numbers behind one another
+-- consecutive ranges of numbers
 ranges : (f : ℕ → ColumnValue) (a m n : ℕ) → map f (range_with_len a m) ++ map f (range_with_len (a + m) n) ≡ map f (range_with_len a (m + n))
 ranges f a zero n =
     let start : a + 0 ≡ a = omega arith in
@@ -46,7 +46,7 @@ ranges f a (suc m) n =
     ap (λ (rest : List ColumnValue). f a ∷ rest) (ap (λ k. map f (range_with_len (a + 1) m) ++ map f (range_with_len k n)) next ∙ ranges f (a + 1) m n)
     ∙ ap (λ k. map f (range_with_len a k)) long
 
--- columns that grow twice
+-- columns that grow twice grow to the greater number
 grown-twice : (a b : ℕ) (columns : List ColumnValue) → columns_grown_to b (columns_grown_to a columns) ≡ columns_grown_to (max a b) columns
 grown-twice a b columns =
     let n = length columns in
@@ -63,7 +63,7 @@ grown-most [] columns =
     sym (ap (λ k. columns ++ map new_column (range_with_len (length columns) k)) none ∙ append-nil columns)
 grown-most (row ∷ rows) columns = grown-most rows (columns_grown_to (length row.cells) columns) ∙ grown-twice (length row.cells) (most_cells rows) columns
 
--- a table that has rows, of which the columns alone have grown
+-- a table whose columns have grown to these rows
 abbrev pub with_columns : List RowValue → TableValue → TableValue
 with_columns rows headed = with_other_rows rows (record headed { columns = columns_grown_to (max (length headed.columns) (most_cells rows)) headed.columns })
 
@@ -78,13 +78,13 @@ whole rows headed none =
 
 -- ---- rows
 
--- those of expanded records
+-- the rows of expanded records
 pub pairs_rows : (rows : RecordRows) → rows.is_expanded ≡ true → (at : ℕ) (left : List (List Text)) → rows_from rows at left ≡ flat_map (pairs_by rows) left
 pairs_rows rows expanded at [] = refl
 pairs_rows rows expanded at (fields ∷ left) =
     ap₂ (λ (b : Bool) (rest : List RowValue). (if b then pairs_by rows fields else made_by rows at fields ∷ []) ++ rest) expanded (pairs_rows rows expanded (at + 1) left)
 
--- those of others, with their settings
+-- the rows of other records, with their settings
 single_rows : (rows : RecordRows) → rows.is_expanded ≡ false → (at : ℕ) (left : List (List Text))
     → rows_from rows at left ≡ map (λ (row : ℕ × List Text). dressed_by rows.selected (slice_get rows.settings.rows row.0) (row_for rows.look rows.is_aligned rows.selected.is_numbered rows.selected.columns row)) (counted_from (at + 1) left)
 single_rows rows single at [] = refl
@@ -105,7 +105,7 @@ no_rows rows = by_kind rows.is_expanded
     by_kind true = refl
     by_kind false = no_rows_dressed rows.selected rows.settings.rows headed (headed-rows rows.look rows.selected rows.selected.names)
 
--- the table of records
+-- the header of the table of records
 pub pairs-header : (look : Look) (content : SelectedValue) → (pairs_table look content).header ≡ None
 pairs-header look content = ap (λ (t : TableValue). t.header) (with_rows-grown (flat_map (pairs_in look content) content.rows) (empty_table look))
 
@@ -142,7 +142,7 @@ table_is rows = by_kind rows.is_expanded refl
 
 -- ---- what cells give
 
--- rows behind one another
+-- the greatest value of rows and more rows
 pub greatest_at-append : (t : TableValue) (f : CellValue → ℕ) (xs ys : List RowValue) (i : ℕ) → greatest_at t f (xs ++ ys) i ≡ max (greatest_at t f xs i) (greatest_at t f ys i)
 greatest_at-append t f [] ys i = omega arith
 greatest_at-append t f (x ∷ xs) ys i = let rest = greatest_at-append t f xs ys i in omega (arith, rest)
@@ -151,7 +151,7 @@ pub most_cells-append : (xs ys : List RowValue) → most_cells (xs ++ ys) ≡ ma
 most_cells-append [] ys = omega arith
 most_cells-append (x ∷ xs) ys = let rest = most_cells-append xs ys in omega (arith, rest)
 
--- the rows of a table change nothing of what one cell gives
+-- the rows of a table don't change the measure of one cell
 measured_same : (f : CellValue → ℕ) (t : TableValue) (rows : List RowValue) (cell : Option CellValue) → measured_at t f cell ≡ measured_at (with_other_rows rows t) f cell
 measured_same f t rows None = refl
 measured_same f t rows (Some cell) = refl
@@ -160,7 +160,7 @@ given_same : (f : CellValue → ℕ) (t : TableValue) (cell : Option CellValue) 
 given_same f t None = refl
 given_same f t (Some cell) = refl
 
--- the greatest of all rows and the header
+-- the greatest value of all rows and the header
 below_header : (f : CellValue → ℕ) (t : TableValue) (rows : List RowValue) (i : ℕ) → t.rows ≡ []
     → max (greatest (map (of_measured t f) (cells_with_header t i))) (greatest_at t f rows i)
     ≡ greatest (map (of_measured (with_other_rows rows t) f) (cells_with_header (with_other_rows rows t) i))
@@ -176,7 +176,7 @@ below_header f t rows i none =
 pub measured_alike : (f : CellValue → ℕ) (t : TableValue) (rows : List RowValue) (made : List RowValue) (i : ℕ) → greatest_at t f made i ≡ greatest_at (with_other_rows rows t) f made i
 measured_alike f t rows made i = λ j. greatest (map (λ (cell : Option CellValue). measured_same f t rows cell j) (cells_at made i))
 
--- the fields of expanded records
+-- the width of the fields of expanded records
 pub fields_are : (rows : RecordRows) (t : TableValue) (room : ℕ) → t.header ≡ None → t.rows ≡ [] → rows.is_expanded ≡ true
     → max 0 (greatest_at (with_other_rows (rows_from rows 0 rows.selected.rows) t) (cell_nowrap_width room) (flat_map (pairs_by rows) rows.selected.rows) 1) ≡ field_width room (with_other_rows (rows_from rows 0 rows.selected.rows) t)
 fields_are rows t room bare none expanded =
@@ -190,7 +190,7 @@ fields_are rows t room bare none expanded =
     let same = ap (λ (made : List RowValue). greatest_at whole f made 1) is in
     omega (arith, own, header, each, same)
 
--- what the fields of a column need is what the cells of rows do
+-- the need of a column's fields is the greatest need of the cells of rows
 pub need_is : (is_nowrap : Bool) (t : TableValue) (all : List RowValue) (i : ℕ) → max 0 (greatest_at (with_other_rows all t) (cell_need is_nowrap) all i) ≡ fields_need is_nowrap (with_other_rows all t) i
 need_is is_nowrap t all i =
     let table = with_other_rows all t in
@@ -208,14 +208,14 @@ pub longest_same : (t : TableValue) (rows : List RowValue) (info : ColumnInfo) (
     → greatest_at t (cell_longest_line t info) made i ≡ greatest_at (with_other_rows rows t) (cell_longest_line (with_other_rows rows t) info) made i
 longest_same t rows info made i = λ j. greatest (map (λ (cell : Option CellValue). measured_same (cell_longest_line t info) t rows cell j) (cells_at made i))
 
--- content widths
+-- the content width of a column is the greatest of its header's and its rows'
 pub width_below : (t : TableValue) (rows : List RowValue) (i : ℕ) → t.rows ≡ [] → max (column_content_width t i) (greatest_at t cell_content_width rows i) ≡ column_content_width (with_other_rows rows t) i
 width_below t rows i none =
     ap (λ n. max n (greatest_at t cell_content_width rows i)) (greatest_measured t cell_content_width i)
     ∙ below_header cell_content_width t rows i none
     ∙ sym (greatest_measured (with_other_rows rows t) cell_content_width i)
 
--- longest lines
+-- the same for the longest line of a column
 pub longest_below : (t : TableValue) (rows : List RowValue) (info : ColumnInfo) (i : ℕ) → t.rows ≡ []
     → max (longest_line t i info.delimiter info.content_width) (greatest_at t (cell_longest_line t info) rows i) ≡ longest_line (with_other_rows rows t) i info.delimiter info.content_width
 longest_below t rows info i none =
@@ -225,7 +225,7 @@ longest_below t rows info i none =
 
 -- ---- widths of the header
 
--- the widths of as many columns as the header has cells are those of all positions
+-- the list of content widths gives the content width at any position, which is 0 past the columns
 all_widths : (t : TableValue) → t.rows ≡ [] → ((row : RowValue) → t.header ≡ Some row → length row.cells ≤ length t.columns) → (i : ℕ) → slice_index_or (max_content_widths t) i 0 ≡ column_content_width t i
 all_widths t none within i =
     ⊎_elim (λ inside. get_or-map-range_with_len (column_content_width t) 0 (length t.columns) i i 0 inside (omega arith))
@@ -276,7 +276,7 @@ header_widths rows t is i = subst (λ (own : TableValue). slice_index_or (max_co
         all_widths (headed rows.selected.names) (no_rows_dressed rows.selected rows.settings.rows (plain rows.selected.names) (headed-rows rows.look rows.selected rows.selected.names))
         (within rows.selected.names) i
 
--- widths that are those of each position are those of the columns
+-- a list with the content width of each position is the list of content widths
 pub widths_are : (t : TableValue) (widths : List ℕ) → length widths ≡ length t.columns → ((i : ℕ) → slice_index_or widths i 0 ≡ column_content_width t i) → widths ≡ max_content_widths t
 widths_are t widths long each = from 0 widths (length t.columns) long (λ i. let same : i ≡ 0 + i = omega arith in each i ∙ ap (column_content_width t) same)
   where

@@ -1,4 +1,4 @@
--- Decimal marks stand below each other, and nothing but spaces is added for that.
+-- Decimal marks are aligned, and only spaces are added for that.
 use Rattle.std.proofs.Common.{◌≡◌, ◌≤◌, ◌+◌, ◌-◌, ◌&&◌, ◌⊎◌, inl, inr, ℕ, Bool, true, false, List, [], ◌∷◌, Option, Some, None, append-nil, fold, map, max, refl, sym, subst, arith}
 use Rattle.std.specs.List.{All}
 use Rattle.std.specs.Prelude.{if◌then◌else◌}
@@ -24,7 +24,7 @@ least : (xs : List ℕ) (start : ℕ) → start ≤ fold max start xs
 least [] start = omega arith
 least (x ∷ xs) start = let more = least xs (max start x) in omega (arith, more)
 
--- each number is at most the greatest
+-- each number is at most the greatest one
 each_at_most : (xs : List ℕ) (start : ℕ) → All (λ x. x ≤ fold max start xs) xs
 each_at_most [] start = All-nil (λ x. x ≤ start)
 each_at_most (x ∷ xs) start =
@@ -34,7 +34,7 @@ each_at_most (x ∷ xs) start =
 abbrev length_behind : DecimalMark → Text → ℕ
 length_behind mark field = fraction_len (halves (byte_of mark) (digits_in field))
 
--- so is each fraction
+-- each fraction is at most as long as the longest one
 fractions : (mark : DecimalMark) (fields : List Text) → All (λ field. length_behind mark field ≤ (use_of mark fields).longest) fields
 fractions mark fields = All-of_map (λ n. n ≤ (use_of mark fields).longest) (length_behind mark) fields (each_at_most (map (length_behind mark) fields) 0)
 

@@ -25,18 +25,18 @@ dressed-length settings [] = refl
 dressed-length [] (cell ∷ cells) = refl
 dressed-length (own ∷ settings) (cell ∷ cells) = ap suc (dressed-length settings cells)
 
--- a cell with its settings keeps what every cell keeps
+-- a cell with settings has the properties of every cell
 pub dressed-keeps : (own : Option CellSettingsValue) (cell : CellValue) → IsCell cell → IsCell (dressed own cell)
 dressed-keeps None cell is = is
 dressed-keeps (Some own) cell is = record { text_lines = is.text_lines; delimiter = is.delimiter }
 
 module _ (look : Look) (is_bold is_aligned : Bool) (fields : List Text) where
-  -- the fields of some columns, without settings
+  -- the cells of columns, without settings
   pub plain_fields : (columns : List ColumnPlan) → shown_cells look is_bold (shown_fields look is_aligned columns fields) ≡ field_cells look is_bold is_aligned [] columns fields
   plain_fields [] = refl
   plain_fields (column ∷ columns) = ap (λ (cells : List CellValue). field_cell look is_bold is_aligned [] fields column ∷ cells) (plain_fields columns)
 
-  -- and with those of a row that may have more columns
+  -- the cells of columns with settings, in a row that may have more columns
   fields_dressed : (settings : List CellSettingsValue) (columns more : List ColumnPlan)
       → dressed_cells (map (λ (column : ColumnPlan). slice_get settings column.position) (columns ++ more)) (shown_cells look is_bold (shown_fields look is_aligned columns fields)) ≡ field_cells look is_bold is_aligned settings columns fields
   fields_dressed settings [] more = refl
@@ -48,14 +48,14 @@ module _ (look : Look) (is_bold is_aligned : Bool) (fields : List Text) where
   plain_cells None columns = plain_fields columns
   plain_cells (Some text) columns = ap (λ (cells : List CellValue). with_weight is_bold (cell_for look (Some Right) text) ∷ cells) (plain_fields columns)
 
-  -- and with them: that of its number has none
+  -- the same cells with settings; the cell of the number has none
   pub cells_dressed : (is_numbered : Bool) (text : Text) (settings : List CellSettingsValue) (columns more : List ColumnPlan)
       → dressed_cells (placed is_numbered (columns ++ more) settings) (shown_cells look is_bold (shown_number (if is_numbered then Some text else None) ++ shown_fields look is_aligned columns fields))
       ≡ shown_cells look is_bold (shown_number (if is_numbered then Some text else None)) ++ field_cells look is_bold is_aligned settings columns fields
   cells_dressed true text settings columns more = ap (λ (cells : List CellValue). with_weight is_bold (cell_for look (Some Right) text) ∷ cells) (fields_dressed settings columns more)
   cells_dressed false text settings columns more = fields_dressed settings columns more
 
--- those that are reached are the first ones
+-- the columns that a record reaches are the first ones
 first_columns : (fields : List Text) (columns : List ColumnPlan) → (more : List ColumnPlan) × (columns_within fields columns ++ more ≡ columns)
 first_columns fields [] = ([], refl)
 first_columns fields (column ∷ columns) = by_any (list_any (has_field fields) (column ∷ columns)) refl (first_columns fields columns)
@@ -84,7 +84,7 @@ module _ (rows : RecordRows) (at : ℕ) (fields : List Text) where
           ap (λ (columns : List ColumnPlan). dressed_cells (placed rows.selected.is_numbered columns own.cells) (plain_by rows at fields).cells) (sym first.1)
           ∙ cells_dressed rows.look false rows.is_aligned fields rows.selected.is_numbered (decimal (at + 1)) own.cells reached first.0
 
-  -- its greatest height
+  -- the greatest height of the row
   pub height_made : (made_by rows at fields).max_height ≡ option_map (max 1) (limit_by (settings_by rows at) rows.look)
   height_made = by_settings (settings_by rows at)
     where
@@ -96,7 +96,7 @@ module _ (rows : RecordRows) (at : ℕ) (fields : List Text) where
       by_settings None = refl
       by_settings (Some own) = by_limit own.max_height
 
-  -- so the row is that of its cells
+  -- the row is made of these cells and this height
   pub row_made : row_with (made_by rows at fields).cells (limit_by (settings_by rows at) rows.look) ≡ made_by rows at fields
   row_made = ap (λ (height : Option ℕ). record { cells = (made_by rows at fields).cells; max_height = height }) (sym height_made)
 
@@ -132,14 +132,14 @@ heading_dressed look is_numbered columns names settings =
     ap (λ (all : List ColumnPlan). dressed_cells (placed is_numbered all settings) (header_for look is_numbered columns names).cells) (sym (append-nil columns))
     ∙ cells_dressed look look.has_bold_header false names is_numbered (number_name names) settings columns []
 
--- it is the header's row
+-- such a row is the row of the header
 pub header_is : (look : Look) (is_numbered : Bool) (columns : List ColumnPlan) (names : List Text) (settings : List CellSettingsValue)
     → plain_row (shown_cells look look.has_bold_header (shown_number (if is_numbered then Some (number_name names) else None)) ++ field_cells look look.has_bold_header false settings columns names)
     ≡ plain_row (dressed_cells (placed is_numbered columns settings) (header_for look is_numbered columns names).cells)
 header_is look is_numbered columns names settings = ap plain_row (sym (heading_dressed look is_numbered columns names settings))
 
 module _ (look : Look) (content : SelectedValue) where
-  -- a table without rows is styled if there are settings of rows
+  -- a table without rows is styled if rows have settings
   abbrev pub styled_empty : List RowSettingsValue → TableValue
   styled_empty settings = record (empty_table look) { enforce_styling = not (length settings == 0) || look.has_bold_header }
 
@@ -149,7 +149,7 @@ module _ (look : Look) (content : SelectedValue) where
       let some : (suc (length settings) == 0) ≡ false = grind (arith, nat_tests) in
       ap (λ (b : Bool). record (empty_table look) { enforce_styling = not b || look.has_bold_header }) some
 
-  -- so is one with a header, whose cells have their settings
+  -- the same table with a header, whose cells have their settings
   pub headed_dressed : (settings : List RowSettingsValue) (names : List Text)
       → with_header (plain_row (dressed_cells (placed content.is_numbered content.columns (cell_settings (slice_get settings 0))) (header_for look content.is_numbered content.columns names).cells)) (styled_empty settings)
       ≡ dressed_table content settings (headed_table look content.is_numbered content.columns (Some names))
@@ -170,7 +170,7 @@ module _ (content : SelectedValue) where
   none_dressed [] = refl
   none_dressed (row ∷ rows) = refl
 
-  -- the first row and the others
+  -- the first row and the other rows
   first_dressed : (settings : List RowSettingsValue) (n : ℕ) (row : RowValue) (rows : List RowValue)
       → dressed_by content (slice_get settings n) row ∷ dressed_rows content (drop (suc n) settings) rows ≡ dressed_rows content (drop n settings) (row ∷ rows)
   first_dressed [] zero row rows = ap (λ (rest : List RowValue). row ∷ rest) (none_dressed rows)
@@ -178,7 +178,7 @@ module _ (content : SelectedValue) where
   first_dressed (own ∷ settings) zero row rows = refl
   first_dressed (own ∷ settings) (suc n) row rows = first_dressed settings n row rows
 
-  -- the rows of records, the first of which has this number
+  -- the rows of records, the first of which has number n
   pub rows_dressed : (settings : List RowSettingsValue) (row : ℕ × List Text → RowValue) (n : ℕ) (left : List (List Text))
       → map (λ (r : ℕ × List Text). dressed_by content (slice_get settings r.0) (row r)) (counted_from n left) ≡ dressed_rows content (drop n settings) (map row (counted_from n left))
   rows_dressed settings row n [] = refl
@@ -188,7 +188,7 @@ module _ (content : SelectedValue) where
       (rows_dressed settings row (n + 1) left ∙ ap (λ k. dressed_rows content (drop k settings) (map row (counted_from (n + 1) left))) next)
       ∙ first_dressed settings n (row (n, fields)) (map row (counted_from (n + 1) left))
 
-  -- they have as many cells
+  -- rows with settings have as many cells
   pub most_dressed : (settings : List RowSettingsValue) (rows : List RowValue) → most_cells (dressed_rows content settings rows) ≡ most_cells rows
   most_dressed settings [] = refl
   most_dressed [] (row ∷ rows) = refl

@@ -1,4 +1,4 @@
--- Nothing harmful is visible of a field as it is drawn.
+-- No harmful character is visible in a field as it is drawn.
 use Rattle.std.proofs.Common.{◌≡◌, ℕ, Bool, true, false, List, [], ◌∷◌, arith, chars, refl, subst, sym}
 use Rattle.std.proofs.lemmas.Bool.{or_parts}
 use Rattle.std.proofs.lemmas.List.Elements.{All-cons, All-nil}
@@ -26,13 +26,13 @@ pub visible_whole : (keeps : Bool) (text : Text) → IsUtf8 text → IsUtf8 (vis
 visible_whole true text utf8 = visible_text-whole text utf8
 visible_whole false text utf8 = utf8
 
--- where nothing harmful stands in a text, nothing harmful is visible of it
+-- the visible part of a text without harmful characters has none
 pub visible-harmless : (keeps : Bool) (text : Text) → HasNothingHarmful text → HasNothingHarmful (visible_of keeps text)
 visible-harmless true text none =
     subst HasNothingHarmful (sym (visible_text-is text text (Shows-clear text (none_by_characters is_harmful 0x1B (omega arith) refl text none)))) none
 visible-harmless false text none = none
 
--- so of characters none of which is harmful
+-- the same for a list of characters
 none_harmful : (cs : List ℕ) → list_any is_harmful cs ≡ false → NonePass is_harmful cs
 none_harmful [] none = tt
 none_harmful (c ∷ cs) none =

@@ -27,7 +27,7 @@ use Rattle.csv_tables.proofs.BlankLemmas.{unless_blank-keeps}
 abbrev is_printable : ℕ → Bool
 is_printable = is_in_range 0x20 0x7E
 
--- what no printable character passes, no byte of such a text does
+-- if no printable character passes, no byte of printable ASCII does
 none_pass : (p : ℕ → Bool) → ((c : ℕ) → is_printable c ≡ true → p c ≡ false) → (text : Text) → is_printable_ascii text ≡ true → list_any p text ≡ false
 none_pass p none [] printable = refl
 none_pass p none (c ∷ cs) printable =
@@ -37,7 +37,7 @@ none_pass p none (c ∷ cs) printable =
 no_break : (c : ℕ) → is_printable c ≡ true → (c == 0x0A) ≡ false
 no_break c printable = grind (arith, tests)
 
--- so no line feed is in such a text
+-- printable ASCII has no line feed
 pub printable_unbroken : (text : Text) → is_printable_ascii text ≡ true → HasNoBreak text
 printable_unbroken text printable = none_pass (λ b. b == 0x0A) no_break text printable
 
@@ -62,13 +62,13 @@ marked_stays text printable =
     let same : encode_utf8_all (escaped text) ≡ escaped text = encodes-IsAscii (escaped text) (ascii-printable (escaped text) more) in
     ap is_printable_ascii (ap (λ (cs : List ℕ). encode_utf8_all (escaped cs)) (chars-IsAscii text (ascii-printable text printable)) ∙ same) ∙ more
 
--- such a text is one text line of its cell
+-- printable ASCII is one text line of its cell
 pub whole_line : (text : Text) → is_printable_ascii text ≡ true → (plain_cell text).text_lines ≡ text ∷ []
 whole_line text printable = slice_split_none (λ b. b == 0x0A) text (All-none (λ b. b == 0x0A) text (printable_unbroken text printable))
 
 -- ---- numbers
 
--- a number is printable
+-- the characters of a colour's parameters are printable
 parameter_is_printable : (c : ℕ) → is_parameter c ≡ true → is_printable c ≡ true
 parameter_is_printable c is = grind (arith, tests)
 
@@ -81,7 +81,7 @@ parameters_are_printable (c ∷ cs) all =
 pub number_is_printable : (n : ℕ) → is_printable_ascii (decimal n) ≡ true
 number_is_printable n = parameters_are_printable (decimal n) (decimal-parameters n)
 
--- it has at most 64 digits
+-- k steps write at most k digits
 digits_are_few : (k n : ℕ) (acc : Text) → length (digits_onto k 10 false n acc) ≤ k + length acc
 digits_are_few zero n acc = omega arith
 digits_are_few (suc k) n acc = by_test (n / 10 == 0) (digits_are_few k (n / 10) (digit_glyph false (n % 10) ∷ acc))
@@ -97,11 +97,11 @@ number_is_short n = let few = digits_are_few 64 n [] in omega (arith, few)
 
 -- ---- short fields
 
--- a text of printable ASCII of at most so many characters
+-- a text of printable ASCII with at most `most` characters
 abbrev pub IsShortPrintable : ℕ → Text → Type 0
 IsShortPrintable most text = (is_printable_ascii text ≡ true) × (length text ≤ most)
 
--- what is escaped is at most twice as long
+-- an escaped text is at most twice as long
 character_is_short : (special : Bool) (c : ℕ) → is_printable c ≡ true → length (escaped_character special c) ≤ 2
 character_is_short special c printable = rw (no_break c printable) (by_test special)
   where
@@ -127,7 +127,7 @@ marked_is_short text (printable, few) =
     ap (λ (cs : List ℕ). encode_utf8_all (escaped cs)) (chars-IsAscii text (ascii-printable text printable)) ∙ encodes-IsAscii (escaped text) (ascii-printable (escaped text) (escaped_stays false None text printable)) in
     (marked_stays text printable, rw same (omega (arith, more, few)))
 
--- such a field is drawn in such text lines
+-- the text lines of such a field, as it is drawn
 pub short_lines : (look : Look) (field : Text) → IsShortPrintable 64 field → All (IsShortPrintable 128) (plain_cell (field_text look field)).text_lines
 short_lines look field (printable, few) =
     subst (All (IsShortPrintable 128)) (sym (whole_line (field_text look field) own.0)) (All-cons (IsShortPrintable 128) (field_text look field) [] own (All-nil (IsShortPrintable 128)))
@@ -142,7 +142,7 @@ short_lines look field (printable, few) =
     own : IsShortPrintable 128 (field_text look field)
     own = by_markdown look.is_markdown
 
--- where it isn't blank, this is its cell too, but in Markdown
+-- the cell of a field of printable ASCII, if it isn't blank and isn't for Markdown
 pub printable_cell : (look : Look) (alignment : Option CellAlignment) (field : Text) (cell : CellValue) → look.is_markdown ≡ false → is_blank field ≡ false
     → (if is_printable_ascii field then Some (record (plain_cell field) { alignment = alignment }) else None) ≡ Some cell
     → cell ≡ cell_for look alignment field

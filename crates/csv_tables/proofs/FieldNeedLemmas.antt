@@ -1,4 +1,4 @@
--- The fields of a column below its name, and how wide they are.
+-- The fields of a column below its name, and their widths.
 use Rattle.std.proofs.Common.{◌≡◌, ◌<◌, ◌≤◌, ℕ, Bool, true, false, List, [], ◌∷◌, ◌++◌, Option, Some, None, flat_map, filter_map, map, max, option_map, arith, ap, ◌∙◌}
 use Rattle.std.specs.List.{cons_option, slice_get}
 use Rattle.std.specs.Prelude.{if◌then◌else◌, option_to_list}
@@ -18,7 +18,7 @@ module _ (i : ℕ) (custom : Bool) (rows : List RowValue) where
   abbrev cells : List RowValue → List CellValue
   cells all = filter_map (λ (row : RowValue). slice_get row.cells i) all
 
-  -- what a name makes no less is no less with a header
+  -- a value that more cells don't make smaller isn't smaller with a header
   below_header : (g : List CellValue → ℕ) → ((cell : CellValue) (more : List CellValue) → g more ≤ g (cell ∷ more)) → (header : Option RowValue)
       → g (cells (option_to_list (if custom then option_map visible_row None else None) ++ rows)) ≤ g (cells (option_to_list (if custom then option_map visible_row header else header) ++ rows))
   below_header g more header = by_style custom header
@@ -37,17 +37,17 @@ module _ (i : ℕ) (custom : Bool) (rows : List RowValue) where
 abbrev measured : TableValue → List RowValue
 measured table = if table.custom_styling then map visible_row table.rows else table.rows
 
--- fields are no wider than the content
+-- fields are at most as wide as the content
 pub fields-within : (table : TableValue) (i : ℕ) → fields_need true table i ≤ column_content_width table i
 fields-within table i = below_header i table.custom_styling (measured table) (λ (all : List CellValue). greatest (map cell_content_width all)) (λ cell more. omega arith) table.header
 
 -- ---- lines that fit
 
--- a text line that fits a width stands there as it is
+-- a text line that fits a width stays as it is
 pub stands : (width delimiter : ℕ) (line : Text) → measure line ≤ width → lines_of_text width delimiter line ≡ line ∷ []
 stands width delimiter line short = ap (λ (b : Bool). if b then line ∷ [] else wrapped width delimiter line) (le-leb (measure line) width short)
 
--- what parts give
+-- the greatest value over concatenated parts
 parts : {X : Type 0} (f : Text → ℕ) (g : X → List Text) (x : X) (xs : List X) → greatest (map f (flat_map g (x ∷ xs))) ≡ max (greatest (map f (g x))) (greatest (map f (flat_map g xs)))
 parts f g x xs = ap greatest (map-append f (g x) (flat_map g xs)) ∙ greatest-append (map f (g x)) (map f (flat_map g xs))
 
@@ -69,7 +69,7 @@ module _ (table : TableValue) (delimiter : Option ℕ) (n : ℕ) where
       let more = cells-long cells (omega (arith, small)) (omega (arith, short)) in
       omega (arith, own, more, small, parts measure lines_of cell cells)
 
--- so the longest line of a column is as wide as its fields
+-- the longest line of a column is at least as wide as its fields
 pub fields-longest : (table : TableValue) (i : ℕ) (delimiter : Option ℕ) (n : ℕ) → fields_need true table i < 65535 → fields_need true table i ≤ n → fields_need true table i ≤ max 1 (longest_line table i delimiter n)
 fields-longest table i delimiter n small short =
     let lines : CellValue → List Text = λ (cell : CellValue). cell_lines n (cell_delimiter table delimiter cell) cell in

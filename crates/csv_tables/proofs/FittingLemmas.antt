@@ -1,4 +1,5 @@
--- What is so of each field of some records is so with spaces behind the fields too, where it is so of short texts of printable ASCII.
+-- A property of each field of some records, and of short texts of printable ASCII, is one of the fields with spaces
+-- after them.
 use Rattle.std.proofs.Common.{◌≡◌, ◌≤◌, ◌+◌, ◌-◌, ◌&&◌, ◌==◌, ℕ, zero, suc, Bool, true, false, List, [], ◌∷◌, ◌++◌, Option, Some, None, drop, fold, length, map, max, nat_le, take, refl, sym, ap, ap₂, ◌∙◌, subst, arith}
 use Rattle.std.specs.List.{All, cons_option, list_all, position, prefix_len, suffix_len}
 use Rattle.std.specs.Prelude.{if◌then◌else◌, option_map, slice_index_or, unwrap_or}
@@ -133,7 +134,7 @@ points-few fields points narrow is = by_tests (marks.are_plain && has_mark marks
     by_tests false true is = let same : marks.comma.longest ≡ points.longest = cc is in let few = longest-few Comma fields narrow in omega (arith, same, few)
     by_tests false false is = absurd (cc is)
 
--- ---- a field with spaces behind it
+-- ---- a field with spaces after it
 
 spaces_printable : (n : ℕ) → Printable (spaces n)
 spaces_printable zero = refl
@@ -163,7 +164,7 @@ spaced-short points field least narrow = (
 
 -- ---- columns with a mark
 
--- a column that has a mark has narrow fields
+-- a column with a mark has narrow fields
 abbrev pub IsPointed : List (List Text) → ColumnPlan → Type 0
 IsPointed rows column = (points : Points) → column.points ≡ Some points → (points.longest ≤ 26) × All Narrow (column_fields rows column.position)
 
@@ -186,7 +187,7 @@ module _ (columns : ColumnsValue) (rows : List (List Text)) where
   columns_pointed : All (IsPointed rows) (drawn_columns columns rows)
   columns_pointed = All-map (IsPointed rows) made columns.drawn (All-every (λ (p : ℕ). IsPointed rows (made p)) columns.drawn pointed)
 
--- as they are seen where no sequences are kept
+-- fields are visible unchanged if no sequences are kept
 seen_so : (fields : List Text) → seen false fields ≡ fields
 seen_so [] = refl
 seen_so (field ∷ fields) = ap (λ (rest : List Text). field ∷ rest) (seen_so fields)
@@ -195,7 +196,7 @@ seen_rows : (rows : List (List Text)) → map (seen false) rows ≡ rows
 seen_rows [] = refl
 seen_rows (fields ∷ rows) = ap₂ (λ (x : List Text) (xs : List (List Text)). x ∷ xs) (seen_so fields) (seen_rows rows)
 
--- so are the columns of records
+-- so the columns of records with a mark have narrow fields
 pub content_pointed : (counted : Option ℕ) (layout : Layout) (records : List (List Text)) (content : SelectedValue) → selected_of counted layout records ≡ content → layout.look.has_sequences ≡ false → All (IsPointed content.rows) content.columns
 content_pointed counted layout records content is plain =
     subst (λ (c : SelectedValue). All (IsPointed c.rows) c.columns) is
@@ -206,7 +207,7 @@ content_pointed counted layout records content is plain =
 
 -- ---- what columns show
 
--- a record's field of a column is narrow, where all of the column are
+-- a record's field of a column is narrow if all fields of the column are
 module _ (position : ℕ) where
   abbrev HasNarrow : List Text → Type 0
   HasNarrow fields = (field : Text) → field_at fields position ≡ Some field → Narrow field
@@ -234,7 +235,7 @@ module _ (R : Text → Type 0) (empty : R []) (gives : (text : Text) → IsShort
           by_field None none = subst R (sym (spaced-blank false (Some points))) empty
           by_field (Some field) some = let is_known = known points is in gives _ (spaced-short points field is_known.0 (is_known.1 field some))
 
-  -- what holds of fields, and of short texts of printable ASCII, holds of what columns show
+  -- a property of fields, and of short texts of printable ASCII, is one of the texts that columns show
   pub each_drawn : (content : SelectedValue) → All (IsPointed content.rows) content.columns → EachOf (All R) content → (is_aligned : Bool) → EachShown R look is_aligned content
   each_drawn content pointed each false = plain_shown R empty look content each
   each_drawn content pointed each true =
@@ -249,7 +250,7 @@ module _ (R : Text → Type 0) (empty : R []) (gives : (text : Text) → IsShort
 
 -- ---- texts
 
--- a text with spaces behind it is whole characters
+-- UTF-8 with spaces after it is UTF-8
 text_field : (keeps : Bool) (mark : Option Points) (field : Text) → IsUtf8 field → IsUtf8 (spaced keeps mark field)
 text_field keeps None field own = own
 text_field keeps (Some points) field own =

@@ -23,12 +23,12 @@ use Rattle.csv_tables.specs.Settings.{CellSettingsValue, RowSettingsValue, dress
 use Rattle.csv_tables.specs.Styled.{placed}
 use Rattle.csv_tables.specs.declared.rows.RecordRows.{RecordRows}
 
--- one line isn't cut
+-- one line isn't cut by height
 uncut : {A : Type 0} (cut : A → A) (limit : Option ℕ) (lines : List A) → length lines ≤ 1 → IfSome limit (λ h. 1 ≤ h) → length (cut_to_limit cut limit lines) ≤ 1
 uncut cut None lines one high = one
 uncut cut (Some h) lines one high = grind (arith, nat_tests, one, high)
 
--- the lines of at most one text line that fits
+-- at most one text line that fits gives at most one line
 few_lines : (w d : ℕ) (texts : List Text) → length texts ≤ 1 → greatest (map measure texts) ≤ w → length (flat_map (lines_of_text w d) texts) ≤ 1
 few_lines w d [] few fits = omega arith
 few_lines w d (text ∷ []) few fits =
@@ -38,7 +38,7 @@ few_lines w d (text ∷ []) few fits =
     omega (arith, long)
 few_lines w d (text ∷ (other ∷ texts)) few fits = absurd (omega (arith, few))
 
--- a cell of at most one text line that fits is at most one piece
+-- a cell with at most one text line that fits gives at most one piece
 flat_cell : (t : TableValue) (row : RowValue) → IfSome row.max_height (λ h. 1 ≤ h) → (info : ColumnInfo) (cell : CellValue) (width : ℕ) → length cell.text_lines ≤ 1
     → cell_content_width (measured_cell t cell) ≤ width → width ≤ info.content_width → width < 65535 → length (cell_pieces t row info cell) ≤ 1
 flat_cell t row high info cell width few content fits below =
@@ -80,7 +80,7 @@ one_more Q infos n last at own before i info below is =
     subst (λ k. Q k info) here (subst (Q n) one own)) (cases_lt i n)
 
 module _ (t : TableValue) (widths : List ℕ) (infos : List ColumnInfo) (within : AreWithin widths infos) where
-  -- a flat row is at most one line high
+  -- a flat row has at most one line
   flat_row : (row : RowValue) → IsFlat row → ((i : ℕ) → greatest_at t cell_content_width (row ∷ []) i ≤ slice_index_or widths i 0) → row_height t infos row ≤ 1
   flat_row row flat bound =
       low (λ (p : ℕ × ColumnInfo). length (pieces_at t row p)) (shown_infos infos)
@@ -100,7 +100,7 @@ module _ (t : TableValue) (widths : List ℕ) (infos : List ColumnInfo) (within 
               let content : greatest_at t cell_content_width (row ∷ []) i ≡ max (cell_content_width (measured_cell t cell)) 0 = ap (λ (o : Option CellValue). greatest (map (measured_at t cell_content_width) (o ∷ []))) found in
               flat_cell t row flat.some_height info cell (slice_index_or widths i 0) few (omega (arith, content, bound i)) own.0 own.1
 
-  -- so are all
+  -- no flat row is tall
   pub none_tall : (rows : List RowValue) → All IsFlat rows → ((i : ℕ) → greatest_at t cell_content_width rows i ≤ slice_index_or widths i 0) → list_any (nat_lt 1) (map (row_height t infos) rows) ≡ false
   none_tall [] flat bound = refl
   none_tall (row ∷ rows) flat bound =
@@ -114,7 +114,7 @@ module _ (t : TableValue) (widths : List ℕ) (infos : List ColumnInfo) (within 
 abbrev IsFew : CellValue → Type 0
 IsFew cell = length cell.text_lines ≤ 1
 
--- settings add none
+-- settings add no text lines
 few_dressed : (settings : List (Option CellSettingsValue)) (cells : List CellValue) → All IsFew cells → All IsFew (dressed_cells settings cells)
 few_dressed settings [] few = few
 few_dressed [] (cell ∷ cells) few = few

@@ -1,4 +1,4 @@
--- Numbers and dates of expanded records are broken only where names leave them no room.
+-- Numbers and dates of expanded records are broken only if names leave them no room.
 use Rattle.std.proofs.Common.{◌≡◌, ◌≤◌, ◌<◌, ◌&&◌, ℕ, ◌+◌, ◌-◌, ◌/◌, Bool, true, false, not, cond, List, [], ◌∷◌, Option, Some, None, MatchBool, flat_map, length, map, max, min, nat_le, nat_lt, replicate, slice_index, slice_index_or, sum, refl, sym, ap, ap₂, ◌∙◌, subst, arith, ⊎_elim}
 use Rattle.std.specs.List.{All, AllByRecursion, AllZip, range_with_len}
 use Rattle.std.specs.Prelude.{if◌then◌else◌}
@@ -41,7 +41,7 @@ use Rattle.csv_tables.specs.declared.options.Look.{Look}
 
 -- ---- two columns without constraints
 
--- widths of two columns, the second at least so wide
+-- the widths of two columns, of which the second is at least m
 record KeepsSecond (m : ℕ) (widths : List ℕ) : Type 0 where
   two : length widths ≡ 2
   wide : m ≤ slice_index widths 1
@@ -54,7 +54,7 @@ module _ (room : ℕ) (a b : ColumnNeeds) (m : ℕ) (content : m ≤ b.content) 
   abbrev whole_room : ℕ
   whole_room = content_room room both
 
-  -- a level that the second passes has room for it
+  -- a level that is smaller than the second content has room for m
   level_enough : (level : ℕ) (widths : List ℕ) → IsLevelledAt room both level widths → nat_le b.content level ≡ false → m ≤ level
   level_enough level widths at wider = by_names (nat_le a.content level) refl
     where
@@ -78,7 +78,7 @@ module _ (room : ℕ) (a b : ColumnNeeds) (m : ℕ) (content : m ≤ b.content) 
           let level_is : level ≡ (whole_room - 0) / 2 = is ∙ ap₂ (λ (x n : ℕ). (whole_room - x) / n) (ap sum fit) (ap length wide) in
           omega (arith, average_passes whole_room 0 2 level (omega arith) level_is, ltb-true level a.content a_wider, beside, share)
 
-  -- so the second has room at a level
+  -- at a level, the second column has room for m
   by_list : (level : ℕ) (widths : List ℕ) → (nat_le b.content level ≡ false → m ≤ level) → AllZip (IsLevelledColumn level) both widths → KeepsSecond m widths
   by_list level [] enough each = absurd each
   by_list level (x ∷ []) enough (own, each) = absurd each
@@ -92,7 +92,7 @@ module _ (room : ℕ) (a b : ColumnNeeds) (m : ℕ) (content : m ≤ b.content) 
           shrunk least (at, lower_bound, three, is) = let long = longest at (omega (arith, least, lower_bound)) in omega (arith, long, is)
   by_list level (x ∷ y ∷ z ∷ more) enough (own, (other, each)) = absurd each
 
-  -- and without one there is no room to be had
+  -- the second column has room for m, also without a level
   keeps : (widths : List ℕ) → IsLevelled room both widths → KeepsSecond m widths
   keeps widths levelled = by_room (nat_lt whole_room 2) refl levelled
     where
@@ -101,7 +101,7 @@ module _ (room : ℕ) (a b : ColumnNeeds) (m : ℕ) (content : m ≤ b.content) 
       by_room false short has = by_list has.level widths (level_enough has.level widths has.levelled) has.levelled.each_column
 
   module _ (plain : All IsUnconstrained both) (widths : List ℕ) where
-    -- so it is in each arrangement
+    -- the second column has room for m in each arrangement
     pub dynamic_keeps : (full : Bool) → IsDynamicLayout room both full widths → m ≤ slice_index widths 1
     dynamic_keeps false layout = (keeps widths (dynamic_is_levelled room both widths plain (omega arith) layout)).wide
     dynamic_keeps true layout = spread_out (dynamic_is_full room both widths plain (omega arith) layout)
@@ -116,7 +116,7 @@ module _ (room : ℕ) (a b : ColumnNeeds) (m : ℕ) (content : m ≤ b.content) 
 
 -- ---- the longest line
 
--- what a part gives is within the greatest of all
+-- the greatest value of a part is at most the greatest of all parts
 parts-within : {X Y : Type 0} (f : Y → ℕ) (g : X → List Y) (xs : List X) → AllByRecursion (λ (x : X). greatest (map f (g x)) ≤ greatest (map f (flat_map g xs))) xs
 parts-within f g [] = tt
 parts-within {X} f g (x ∷ xs) =
@@ -125,7 +125,7 @@ parts-within {X} f g (x ∷ xs) =
       every-weaker (λ (y : X). greatest (map f (g y)) ≤ greatest (map f (flat_map g xs))) (λ (y : X). greatest (map f (g y)) ≤ greatest (map f (flat_map g (x ∷ xs)))) xs (λ y below. omega (arith, all, below)) (parts-within f g xs),
     )
 
--- so the longest line of its column is no shorter
+-- a text line of a column's cell is at most as wide as the column's longest line
 longest-least : (table : TableValue) (i : ℕ) (delimiter : Option ℕ) (width : ℕ)
     → All (λ (cell : CellValue). All (λ (line : Text). measure line ≤ width → measure line ≤ longest_line table i delimiter width) cell.text_lines) (column_cells table i)
 longest-least table i delimiter width k default below j other inside short =
@@ -152,7 +152,7 @@ module _ (base : TableValue) (a b : ColumnValue) (new : AllByRecursion IsNewColu
   one_right : b.padding.1 ≡ 1
   one_right = ap (λ (x : ℕ × ℕ). x.1) new.1.0.padding
 
-  -- a width of the second column is kept
+  -- a fixed width of the second column is kept
   fixed_wide : (field : ℕ) → width_kept base.arrangement (Some w) ≡ Some w → table_width base ≡ Some w → IsArranged (with_field_width field pair) widths → field ≤ slice_index widths 1
   fixed_wide field kept known arranged =
       let with = with_field_width field pair in
@@ -167,7 +167,7 @@ module _ (base : TableValue) (a b : ColumnValue) (new : AllByRecursion IsNewColu
       let same : slice_index (widened room (shown_needs with) full found.0) 1 ≡ slice_index widths 1 = ap (λ (xs : List ℕ). slice_index xs 1) (sym found.1.widths_are) ∙ drawn in
       omega (arith, wide, same)
 
-  -- without one, a text line has room that fits beside names, or as wide as they
+  -- without a fixed width, a text line has room if it fits beside the names, or beside names as wide as itself
   shared_wide : (m : ℕ) → m ≤ column_content_width base 1 → ((n : ℕ) → m ≤ n → m ≤ longest_line base 1 b.delimiter n)
       → needed_by_names (column_content_width base 0) + m ≤ w - (border_count base.style 2 + 4) → min (column_content_width base 0) m + m ≤ w - (border_count base.style 2 + 4)
       → width_kept base.arrangement (Some w) ≡ Some w → table_width base ≡ Some w → IsArranged pair widths → m ≤ slice_index widths 1
@@ -223,7 +223,7 @@ module _ (base : TableValue) (a b : ColumnValue) (new : AllByRecursion IsNewColu
 
 -- ---- the table of expanded records
 
--- lines between rows and a width of fields change no cell
+-- lines between rows and a width of fields don't change the cells
 cells_kept : (has : Bool) (o : Option ℕ) (pairs : TableValue) (i : ℕ) → column_cells (separated_table has (with_min_field_width o pairs)) i ≡ column_cells pairs i
 cells_kept has None pairs i = by_lines has
   where
@@ -247,7 +247,7 @@ cells_kept has (Some w) pairs i = by_break has (may_break room names field)
     by_break false true = refl
     by_break false false = refl
 
--- there are cells only where there are two columns
+-- without two columns there are no cells in the second one
 all_cells : (look : Look) (rows : List RowValue) → All HasTwo rows → (P : CellValue → Type 0)
     → (length (with_rows rows (empty_table look)).columns ≡ 2 → All P (column_cells (with_rows rows (empty_table look)) 1)) → All P (column_cells (with_rows rows (empty_table look)) 1)
 all_cells look [] two P gives = by_custom look.has_sequences
@@ -325,7 +325,7 @@ module _ (w : ℕ) (look : Look) (content : SelectedValue) (small : w ≤ 65535)
         by_lines true = refl
         by_lines false = refl
 
-    -- a text line has room that is within the widest and fits beside the names
+    -- a text line has room if it is at most as wide as the widest number or date, and fits beside the names
     line_wide : (m : ℕ) → m ≤ field → m ≤ column_content_width pairs 1 → ((n : ℕ) → m ≤ n → m ≤ longest_line base 1 b.delimiter n) → needed_by_names names + m ≤ room → m ≤ slice_index widths 1
     line_wide m within content longest beside = by_break (may_break room names field) refl own
       where
@@ -344,7 +344,7 @@ module _ (w : ℕ) (look : Look) (content : SelectedValue) (small : w ≤ 65535)
             shared_wide base a b new w widths m (omega (arith, content, base_width 1)) longest (omega (arith, beside, first, two_rooms, fewer)) (omega (arith, shared, within, first, two_rooms, fewer))
             (subst (λ (t : TableValue). width_kept t.arrangement (Some w) ≡ Some w) with keeps_width) (subst (λ (t : TableValue). table_width t ≡ Some w) with known_width) (subst (λ (t : TableValue). IsArranged t widths) with arranged)
 
-    -- so each number and each date has that fits
+    -- each number and each date that fits has room
     abbrev FieldIsWhole : CellValue → Type 0
     FieldIsWhole cell =
         All (λ (line : Text). is_nowrap line ≡ true → framed_width look.style (needed_by_names (column_content_width table 0) ∷ measure line ∷ []) ≤ w → measure line ≤ slice_index widths 1) cell.text_lines
@@ -412,7 +412,8 @@ module _ (w : ℕ) (look : Look) (content : SelectedValue) (small : w ≤ 65535)
       with_both (a ∷ b ∷ []) are two = fields_are_whole a b are
       with_both (a ∷ b ∷ c ∷ more) are two = absurd (omega (arith, two))
 
--- so does each text line of a field of the table that is drawn of expanded records, as it is measured, that is a number or a date and fits the width beside what the names need
+-- In the drawn table of expanded records, as it is measured, each text line of a field has room if it is a number or a
+-- date and fits the width beside names.
 pub expanded_keeps_whole : (w : ℕ) (look : Look) (content : SelectedValue) → w ≤ 65535 → look.width ≡ Some w → is_expanded_for look content ≡ true → (table : TableValue) (widths : List ℕ) → IsDrawnTable look content table → IsArranged table widths
     → All (λ (cell : CellValue). All (λ (line : Text). is_nowrap line ≡ true → framed_width look.style (needed_by_names (column_content_width table 0) ∷ measure line ∷ []) ≤ w → measure line ≤ slice_index widths 1) cell.text_lines) (column_cells table 1)
 expanded_keeps_whole w look content small wide expanded table widths (has, made) arranged = whole_cells w look content small wide expanded has table made widths arranged

@@ -1,4 +1,4 @@
--- Columns of numbers and dates are drawn no narrower than their fields.
+-- Columns of numbers and dates are drawn at least as wide as their fields.
 use Rattle.std.proofs.Common.{◌≡◌, ◌==◌, ◌≤◌, ◌<◌, ◌&&◌, ◌||◌, ℕ, zero, suc, ◌+◌, ◌-◌, Bool, true, false, not, cond, List, [], ◌∷◌, ◌++◌, Option, Some, None, find, length, map, max, min, nat_le, nat_lt, option_map, slice_index, unwrap_or, refl, sym, ap, ◌∙◌, subst, arith, eq-zero-or-pos, ⊎_elim}
 use Rattle.std.specs.List.{AllByRecursion, AllZip, slice_index_or, cons_option, enumerate_from, range_with_len, slice_get}
 use Rattle.std.specs.Prelude.{if◌then◌else◌}
@@ -33,7 +33,7 @@ use Rattle.csv_tables.specs.declared.options.Look.{Look}
 abbrev pub IsFixedAt : List ColumnNeeds → ℕ → ℕ → Type 0
 IsFixedAt columns k x = (need : ColumnNeeds) × (slice_get columns k ≡ Some need) × (need.fixed ≡ Some x)
 
--- so it has that claim
+-- a column of fixed width has this width as its claim
 fixed_claim : (columns : List ColumnNeeds) (n k x : ℕ) (rest : List Claim) → IsFixedAt columns k x → claim_at (fixed_claims (enumerate_from n columns) ++ rest) (n + k) ≡ x
 fixed_claim [] n k x rest at = absurd (cc at.1)
 fixed_claim (c ∷ cs) n zero x rest at =
@@ -61,7 +61,7 @@ fixed_claim (c ∷ cs) n (suc k) x rest at = by_fixed c.fixed refl (fixed_claim 
         ∙ ap (λ (b : Bool). unwrap_or (option_map (λ (s : Claim). s.1) (cond b (Some (n, y)) (find (λ (s : Claim). s.0 == n + suc k) (others ++ rest)))) 0) (ne_eqb n (n + suc k) (λ same. absurd (omega (arith, same))))
         ∙ ap (claim_at (others ++ rest)) place ∙ more
 
--- what is added makes no width less
+-- added widths make no width smaller
 pub le-added : (xs ys : List ℕ) (k : ℕ) → length xs ≤ length ys → slice_index xs k ≤ slice_index (added xs ys) k
 le-added [] ys k long = omega arith
 le-added (x ∷ xs) [] k long = absurd (omega (arith, long))
@@ -73,7 +73,7 @@ inside [] k need at = absurd (cc at)
 inside (c ∷ cs) zero need at = omega arith
 inside (c ∷ cs) (suc k) need at = let more = inside cs k need at in omega (arith, more)
 
--- so a fixed width is drawn no narrower
+-- a fixed width is drawn at least as wide
 pub fixed_is_kept : (room : ℕ) (columns : List ColumnNeeds) (full : Bool) (steps : Steps) (k x : ℕ) → IsFixedAt columns k x → x ≤ slice_index (widened room columns full steps) k
 fixed_is_kept room columns full steps k x at = by_test (full && (length (even_columns room columns steps) == 0))
   where
@@ -92,11 +92,11 @@ fixed_is_kept room columns full steps k x at = by_test (full && (length (even_co
 
 -- ---- columns of a table
 
--- the needs of a column that is given this content first
+-- the needs of a column that gets this content width beforehand
 abbrev given_needs : TableValue → ℕ → ℕ → ColumnValue → ColumnNeeds
 given_needs table i kept column = needs_of table (i, record column { constraint = Some (lower_bound kept) })
 
--- the width of such a column has room for what keeps its boundary
+-- the width of a column with a lower boundary has room for a text that fits the boundary
 width_at : (table : TableValue) (kept : ℕ → ℕ) (widths : List ℕ) (columns : List ColumnValue) (n i : ℕ) → AllByRecursion IsNewColumn columns → i < length columns
     → AllZip KeepsBoundary (map (needs_of table) (enumerate_from n (leasts_on (map kept (range_with_len n (length columns))) columns))) (map (λ (p : ℕ × ColumnValue). slice_index widths p.0) (enumerate_from n (leasts_on (map kept (range_with_len n (length columns))) columns)))
     → (column : ColumnValue) × IsNewColumn column × KeepsBoundary (given_needs table (n + i) (kept (n + i)) column) (slice_index widths (n + i))
@@ -109,7 +109,7 @@ width_at table kept widths (c ∷ cs) n (suc i) new below each =
     let own = width_at table kept widths cs (n + 1) i new.1 (omega (arith, below)) each.1 in
     (own.0, own.1, subst (λ (j : ℕ). KeepsBoundary (given_needs table j (kept j) own.0) (slice_index widths j)) place own.2)
 
--- what is fixed by a boundary is the boundary
+-- a width that a lower boundary fixes is the boundary without padding
 fixed-boundary : (content padding kept x : ℕ) → padding ≡ 2 → 0 < kept → fixed_by_boundary content padding (Some (boundary_for kept)) ≡ Some x → kept ≤ x
 fixed-boundary content padding kept x two some is =
     let l = boundary-some kept some in
@@ -126,7 +126,7 @@ module _ (table : TableValue) (new : AllByRecursion IsNewColumn table.columns) (
   abbrev fields : ℕ
   fields = fields_need true table i
 
-  -- a column of numbers and dates keeps as much as its widest field
+  -- a column of numbers and dates keeps at least the width of its widest field
   keeps_fields : slice_get whole.nowrap i ≡ Some true → fields ≤ reserved_width level whole table i
   keeps_fields is =
       let narrow = fields-within table i in
@@ -164,7 +164,7 @@ module _ (table : TableValue) (new : AllByRecursion IsNewColumn table.columns) (
       (λ x fixed. let wide = fixed-boundary (column_content_width with i) (column_padding own.0) (reserved_width level whole table i) x two (omega (arith, given, some)) fixed in omega (arith, given, wide))
       (omega (arith, given, l, two)) (fields-within table i) (λ n enough. fields-longest table i own.0.delimiter n small enough)
 
-  -- also where there is none
+  -- the same for a column without content
   pub fields_are_kept : width_kept with.arrangement (Some w) ≡ Some w → table_width with ≡ Some w → slice_get whole.nowrap i ≡ Some true → i < length table.columns → IsArranged with widths → fields < 65535 → fields ≤ slice_index widths i
   fields_are_kept kept known is below arranged small = ⊎_elim (λ none. omega (arith, none)) (λ some. some_is_kept kept known is below arranged small some) (eq-zero-or-pos fields)
 
@@ -174,7 +174,7 @@ kept_arrangement w false = refl
 
 -- ---- columns of numbers and dates
 
--- those of the table that is drawn are no narrower than their fields
+-- each column of numbers and dates in the drawn table is at least as wide as its fields
 abbrev pub NoWrapColumnsAreWhole : Look → SelectedValue → Type 0
 NoWrapColumnsAreWhole look content =
     (table : TableValue) (widths : List ℕ) (i : ℕ) → IsDrawnTable look content table
@@ -182,7 +182,7 @@ NoWrapColumnsAreWhole look content =
     → slice_get (nowrap_in content) i ≡ Some true
     → fields_need true table i ≤ slice_index widths i
 
--- if there is room for them, they are so
+-- they are this wide if the width has room for them
 room_keeps_whole : (w : ℕ) (look : Look) (content : SelectedValue) → w ≤ 65535 → look.width ≡ Some w → has_room (Some w) (wanted_in look content) (rows_table look (is_aligned_in look content) content) ≡ true → is_expanded_for look content ≡ false → NoWrapColumnsAreWhole look content
 room_keeps_whole w look content small wide room none table widths i is_drawn arranged below is = subst (λ (t : TableValue). fields_need true t i ≤ slice_index widths i) (sym same) kept
   where
@@ -273,7 +273,7 @@ held : (b : Bool) → not b ≡ false → b ≡ true
 held true is = refl
 held false is = absurd (cc is)
 
--- without records no column has numbers and dates alone
+-- without records, no column counts as one of numbers and dates alone
 none_in : (is_numbered : Bool) (columns : List ColumnPlan) (i : ℕ) → slice_get ((if is_numbered then false ∷ [] else []) ++ map (λ (column : ColumnPlan). false && column.is_nowrap) columns) i ≡ Some true → ⊥
 none_in true columns zero is = cc is
 none_in true columns (suc i) is = none_in false columns i is
@@ -286,7 +286,7 @@ none_without look content empty table widths i is_drawn arranged below is =
     absurd (none_in content.is_numbered content.columns i
     (subst (λ (b : Bool). slice_get ((if content.is_numbered then not b ∷ [] else []) ++ map (λ (column : ColumnPlan). not b && column.is_nowrap) content.columns) i ≡ Some true) empty is))
 
--- under `auto` they are if records aren't expanded
+-- with `auto`, they are this wide if records aren't expanded
 pub auto_keeps_whole : (w : ℕ) (look : Look) (content : SelectedValue) → w ≤ 65535 → look.is_markdown ≡ false → look.width ≡ Some w → look.expansion ≡ Auto → is_expanded_for look content ≡ false → NoWrapColumnsAreWhole look content
 auto_keeps_whole w look content small table wide auto none = by_rows (length content.rows == 0) refl
   where

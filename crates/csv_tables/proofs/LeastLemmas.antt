@@ -1,4 +1,5 @@
--- What columns take at least: what has no more room than that leaves for one terminal column of each other column.
+-- The least widths of columns: the widths that constraints fix, the lower boundaries, and one terminal column for each
+-- other column.
 use Rattle.std.proofs.Common.{◌≡◌, ◌≤◌, ◌==◌, ◌||◌, ℕ, ◌+◌, Bool, true, false, cond, not, List, [], ◌∷◌, ◌++◌, Option, Some, None, append-nil, filter, is_none, length, option_map, sum_by, unwrap_or, refl, sym, ap, ◌∙◌, arith}
 use Rattle.std.specs.List.{AllByRecursion, cons_option, enumerate_from, list_any}
 use Rattle.std.proofs.lemmas.Bool.{eq-eqb}
@@ -13,12 +14,12 @@ use Rattle.comfy_table.specs.Dynamic.{Claim, IsArrangedBy, IsTakenAfter, Positio
 use Rattle.comfy_table.specs.Laws.{least_with_steps}
 use Rattle.comfy_table.specs.Widths.{ColumnNeeds, without_padding}
 
--- a lower boundary, or one terminal column
+-- a lower boundary without padding, or one terminal column
 abbrev pub lower_or_one : ℕ → Option ℕ → ℕ
 lower_or_one padding None = 1
 lower_or_one padding (Some l) = without_padding padding l
 
--- a fixed width, or that
+-- a fixed width, or else that
 abbrev pub least_of : ColumnNeeds → ℕ
 least_of column = unwrap_or column.fixed (lower_or_one column.padding column.lower)
 
@@ -35,7 +36,7 @@ takes b padding (Some l) width is = grind arith
 
 -- ---- columns that are taken
 
--- some columns take no more than all
+-- the least widths of some columns sum up to at most those of all
 fewer : (taken : List Claim) (columns : List Positioned) → sum_by lower_at (without_claims taken columns) ≤ sum_by lower_at columns
 fewer taken [] = omega arith
 fewer taken (c ∷ columns) = by_test (not (list_any (λ (t : Claim). t.0 == c.0) taken)) (fewer taken columns)
@@ -47,7 +48,7 @@ fewer taken (c ∷ columns) = by_test (not (list_any (λ (t : Claim). t.0 == c.0
     by_test true own = omega (arith, own, sum_by-cons lower_at c rest, sum_by-cons lower_at c columns)
     by_test false own = omega (arith, own, sum_by-cons lower_at c columns)
 
--- one of them takes its part
+-- one of the columns takes its part of this sum
 abbrev HasPart : List Positioned → Positioned → Type 0
 HasPart columns p = (width : ℕ) → lower_at p + sum_by lower_at (without_claims ((p.0, width) ∷ []) columns) ≤ sum_by lower_at columns
 
@@ -69,7 +70,7 @@ each_part (c ∷ columns) = (
     by_test p width true own = omega (arith, own, sum_by-cons lower_at c (rest p.0 width), sum_by-cons lower_at c columns)
     by_test p width false own = omega (arith, own, sum_by-cons lower_at c columns)
 
--- so do all that are taken one after another
+-- so do all columns that are taken one after another
 module _ (candidates : List Positioned) (offer : List Claim → Positioned → Option ℕ) (takes : (taken : List Claim) (p : Positioned) (width : ℕ) → offer taken p ≡ Some width → width ≤ lower_at p) where
   taken_within : (from : ℕ) (taken order : List Claim) → IsTakenAfter candidates offer from taken order → total order + sum_by lower_at (without_claims (taken ++ order) candidates) ≤ sum_by lower_at (without_claims taken candidates)
   taken_within from taken [] ends = omega (arith, ap (λ (ts : List Claim). sum_by lower_at (without_claims ts candidates)) (append-nil taken))
@@ -84,12 +85,12 @@ module _ (candidates : List Positioned) (offer : List Claim → Positioned → O
 
 -- ---- all columns
 
--- each takes one terminal column at least
+-- each column takes at least one terminal column
 some_each : (columns : List Positioned) → length columns ≤ sum_by lower_at columns
 some_each [] = omega arith
 some_each (p ∷ more) = omega (arith, some_lower p.1.padding p.1.lower, some_each more, sum_by-cons lower_at p more)
 
--- the fixed widths, and what the others take
+-- the fixed widths, and the least widths of the other columns
 fixed_and_others : (n : ℕ) (columns : List ColumnNeeds)
     → total (fixed_claims (enumerate_from n columns)) + sum_by lower_at (filter (λ (p : Positioned). is_none p.1.fixed) (enumerate_from n columns)) ≡ sum_by least_of columns
 fixed_and_others n [] = refl
@@ -106,7 +107,7 @@ fixed_and_others n (column ∷ more) = by_fixed column.fixed (fixed_and_others (
     by_fixed None own = omega (arith, own, sum_by-cons lower_at (n, column) free)
     by_fixed (Some width) own = omega (arith, own, sum_by-cons (λ (t : Claim). t.1) (n, width) claims)
 
--- what steps need at least is what all columns take at least
+-- the steps need at most the least widths of all columns
 pub steps_within : (room : ℕ) (columns : List ColumnNeeds) (full : Bool) (steps : Steps) (widths : List ℕ) → IsArrangedBy room columns full steps widths
     → least_with_steps columns steps ≤ sum_by (λ (column : ColumnNeeds). column.padding) columns + sum_by least_of columns
 steps_within room columns full steps widths arranged =

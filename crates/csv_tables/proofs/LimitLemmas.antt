@@ -1,4 +1,4 @@
--- Columns with limits: their paddings, and what they take of a width.
+-- Columns with limits: their paddings, and their part of the width.
 use Rattle.std.proofs.Common.{◌≡◌, ◌<◌, ◌≤◌, ◌+◌, ◌&&◌, ℕ, zero, suc, Bool, true, false, ◌==◌, List, [], ◌∷◌, Some, None, arith, get_or, nat_le, length, map, set, take, refl, ap, ap₂, ◌∙◌}
 use Rattle.std.specs.List.{All, list_all, range_with_len, sum}
 use Rattle.std.specs.Prelude.{sum_by, if◌then◌else◌}
@@ -20,13 +20,13 @@ padded-length [] columns = refl
 padded-length (own ∷ limits) [] = refl
 padded-length (own ∷ limits) (column ∷ columns) = ap suc (padded-length limits columns)
 
--- the column at a place
+-- the column at a place gets its padding
 pub padded_set : (i : ℕ) (padding : ℕ × ℕ) (columns : List ColumnValue) (default : ColumnValue) → i < length columns → set columns i (record (get_or columns i default) { padding = padding }) ≡ padded_at i padding columns
 padded_set i padding [] default below = absurd (omega (arith, below))
 padded_set zero padding (column ∷ columns) default below = refl
 padded_set (suc i) padding (column ∷ columns) default below = ap (λ (cs : List ColumnValue). column ∷ cs) (padded_set i padding columns default (omega (arith, below)))
 
--- or none
+-- there is no column at this place
 pub padded_past : (i : ℕ) (padding : ℕ × ℕ) (columns : List ColumnValue) → length columns ≤ i → padded_at i padding columns ≡ columns
 padded_past i padding [] past = refl
 padded_past zero padding (column ∷ columns) past = absurd (omega (arith, past))
@@ -44,7 +44,7 @@ padded_more (own ∷ limits) (suc i) default (column ∷ columns) below =
 
 -- ---- widths
 
--- a column without limits takes its content, and one on both sides
+-- a column without limits takes its content width and one terminal column on each side
 sum_taken : (f : ℕ → ℕ) (n count : ℕ) → sum_by (λ content. 2 + content) (map f (range_with_len n count)) ≡ sum (map (λ (i : ℕ). taken (limits_at [] i) (f i)) (range_with_len n count))
 sum_taken f n zero = refl
 sum_taken f n (suc count) =
@@ -88,11 +88,11 @@ module _ (limits : List ColumnLimits) (width : ℕ) (wanted : Wanted) (table : T
   abbrev given : List ColumnLimits → List ℕ
   given l = given_with l width (most_within l width wanted table) table
 
-  -- the words that are kept have room too
+  -- the words that are kept whole have room too
   pub most-room : has_room_within limits (Some width) wanted table ≡ true → bounded_width limits 8 (most_within limits width wanted table) table ≤ width
   most-room room = leb-true _ width (most_fit (λ (level : ℕ) (own : Wanted). nat_le (bounded_width limits level own table) width) width wanted (room-is ∙ room))
 
-  -- where there is room, columns are given what they need to be whole
+  -- with room, columns get the widths beforehand that they need to stay whole
   pub widths_with_room : has_room_within limits (Some width) wanted table ≡ true → with_widths limits (Some width) wanted table ≡ with_limits limits (given limits) table
   widths_with_room room = by_limits limits room
     where
@@ -100,7 +100,7 @@ module _ (limits : List ColumnLimits) (width : ℕ) (wanted : Wanted) (table : T
       by_limits [] is = kept-test width wanted table true is
       by_limits (own ∷ more) is = ap (λ (b : Bool). with_limits (own ∷ more) (if b then given (own ∷ more) else []) table) is
 
-  -- else they have their limits alone
+  -- without room, columns have only their own limits
   pub widths_without_room : has_room_within limits (Some width) wanted table ≡ false → with_widths limits (Some width) wanted table ≡ with_own_limits limits table
   widths_without_room none = by_limits limits none
     where
@@ -108,7 +108,7 @@ module _ (limits : List ColumnLimits) (width : ℕ) (wanted : Wanted) (table : T
       by_limits [] is = kept-test width wanted table false is
       by_limits (own ∷ more) is = ap (λ (b : Bool). with_limits (own ∷ more) (if b then given (own ∷ more) else []) table) is
 
--- what is given is at most what has room
+-- the widths that columns get beforehand are at most 65533
 pub given_within_room : (level : ℕ) (wanted : Wanted) (table : TableValue) → least_width wanted table ≤ 65535 → All (λ content. content ≤ 65533) (by_columns (reserved_width level wanted table) table)
 given_within_room level wanted table fits =
     let framed : least_width wanted table ≡ border_count table.style (length (by_columns (width_at_level 8 wanted table) table)) + sum_by (λ content. 2 + content) (by_columns (width_at_level 8 wanted table) table) = refl in
@@ -116,7 +116,7 @@ given_within_room level wanted table fits =
 
 -- ---- constraints
 
--- columns that have limits get their contents within them, if no width is kept
+-- without a width, columns with limits get their content widths within these
 pub limited-contents : (limits : List ColumnLimits) (wanted : Wanted) (table : TableValue) → (length limits == 0) ≡ false → with_limits limits (max_content_widths table) table ≡ with_widths limits None wanted table
 limited-contents [] wanted table some = absurd (cc some)
 limited-contents (own ∷ limits) wanted table some = refl

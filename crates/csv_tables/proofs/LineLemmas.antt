@@ -1,4 +1,4 @@
--- The lines of an output, and how many characters they have.
+-- The lines of an output, and the number of their characters.
 use Rattle.std.proofs.Common.{◌≡◌, ◌==◌, ◌≤◌, ◌<◌, ◌⊎◌, Contains, inl, inr, max, arith, not, ◌&&◌, ℕ, zero, suc, Bool, true, false, List, [], ◌∷◌, ◌++◌, ◌+◌, Option, Some, append-nil, ap₂, flat_map, length, map, take, unwrap_or, refl, ap, sym, ◌∙◌, subst}
 use Rattle.std.specs.List.{All, list_any, range_with_len, slice_index_or}
 use Rattle.std.specs.Prelude.{sum_by}
@@ -31,17 +31,17 @@ use Rattle.csv_tables.specs.declared.options.Layout.{Layout}
 abbrev pub Any : RowValue → Type 0
 Any row = Unit {0}
 
--- a table of records, whatever its rows
+-- a table of records, with any rows
 pub any_built : (is_expanded is_aligned : Bool) (look : Look) (content : SelectedValue) → Built look Any content (plain_table is_expanded is_aligned look content)
 any_built is_expanded is_aligned look content =
     built look Any content is_expanded is_aligned (λ n is. tt) (All-every (λ row. Any (row_for look is_aligned content.is_numbered content.columns row)) (counted_from 1 content.rows) (λ row. tt))
     (All-every (λ fields. All Any (pairs_in look content fields)) content.rows (λ fields. All-every Any (pairs_in look content fields) (λ row. tt)))
 
--- the drawn table is so built
+-- the drawn table is built in this way
 pub any_drawn : (look : Look) (content : SelectedValue) (is_expanded has : Bool) → IsDrawn (separated has look) Any content (separated_table has (output_table is_expanded look content))
 any_drawn look content is_expanded has = drawn_table-is look Any content is_expanded has (any_built is_expanded (is_aligned_in look content) (separated has look) content)
 
--- no line of it holds a line feed, where none is in the style
+-- no line of the table has a line feed, if the style has none
 unbroken_style : (has : Bool) (look : Look) → IsStyleWithout 0x0A look.style → IsStyleWithout 0x0A (separated has look).style
 unbroken_style true look none = none
 unbroken_style false look none =
@@ -69,7 +69,7 @@ one_place_more f n =
     sym (flat_map-map f (λ x. x) (range_with_len 0 (n + 1))) ∙ ap (flat_map f) (map-range_with_len_more (λ x. x) 0 n n (omega arith))
     ∙ flat_map-append f (map (λ x. x) (range_with_len 0 n)) (n ∷ []) ∙ ap₂ (λ a b. a ++ b) (flat_map-map f (λ x. x) (range_with_len 0 n)) (append-nil (f n))
 
--- the lines of the whole table are those of its text
+-- the lines of the whole table are the lines of its text
 pub drawn_lines : (is_expanded : Bool) (content : SelectedValue) (arranged : ArrangedValue) → All HasNoBreak (drawing_of_infos arranged.table arranged.infos)
     → HasLines is_expanded content (drawing_of_infos arranged.table arranged.infos) (table_text is_expanded content arranged)
 drawn_lines false content arranged unbroken =
@@ -103,7 +103,7 @@ module _ (counted : Option ℕ) (layout : Layout) (records : List (List Text)) (
   abbrev pub drawn : List Text
   drawn = drawing_of_infos drawn_table text.drawn.arranged.infos
 
-  -- it is expanded where its look asks for it
+  -- it is expanded if its look requires it
   pub expansion : text.is_expanded ≡ is_expanded_for layout.look made.content
   expansion = text.expansion ∙ ap (λ b. not b && is_table_expanded layout.look made.content) (sym none)
 
@@ -132,7 +132,7 @@ module _ (counted : Option ℕ) (layout : Layout) (records : List (List Text)) (
 
 -- ---- widths
 
--- what follows for each count
+-- a weaker property of each line's width
 weaker_counts : (P R : ℕ → Type 0) (table : TableValue) (widths : List ℕ) → ((n : ℕ) → P n → R n) → LineWidthsSatisfy P table widths → LineWidthsSatisfy R table widths
 weaker_counts P R table widths gives counts =
     record {
@@ -141,7 +141,8 @@ weaker_counts P R table widths gives counts =
       straight_lines = λ is. All-weaker (λ line. P (measure line)) (λ line. R (measure line)) (λ line. gives (measure line)) (drawing (unstyled table) widths) (counts.straight_lines is);
     }
 
--- a count keeps to a width, or to borders, paddings and one for each column; where the width is filled, it is exactly that; if a column is shown
+-- A line's width is at most the set width, or the sum of borders, paddings and one terminal column for each column if
+-- that is greater. If the width is filled, it is exactly that. This holds if a column is shown.
 abbrev pub IsKept : ℕ → Bool → TableValue → ℕ → Type 0
 IsKept w is_filled table n = 0 < shown_count table → (n ≤ max w (least_total table)) × (is_filled ≡ true → n ≡ max w (least_total table))
 
@@ -188,12 +189,12 @@ module _ (w : ℕ) (look : Look) (content : SelectedValue) (table : TableValue) 
       exact : (n : ℕ) → n ≡ least → (n ≤ least) × (true ≡ true → n ≡ least)
       exact n own = (omega (arith, own), λ same. own)
 
--- a look with lines between rows or without them keeps its other settings
+-- a look with lines between rows or without them has the same other settings
 pub kept_setting : {A : Type 0} (of : Look → A) (look : Look) → of (separated true look) ≡ of (separated false look) → (has : Bool) (a : A) → of look ≡ a → of (separated has look) ≡ a
 kept_setting of look same true a is = is
 kept_setting of look same false a is = sym same ∙ is
 
--- so do the lines of an output
+-- the lines of an output keep to the width too
 pub output_keeps_to : (w : ℕ) (counted : Option ℕ) (layout : Layout) (records : List (List Text)) (output : Text) (made : RendersRecords counted layout records output) (text : RendersAsTable layout.look made.content made.text) (none : layout.look.is_markdown ≡ false) → layout.look.width ≡ Some w
     → LineWidthsSatisfy (IsKept w layout.look.fills_width (drawn_table counted layout records output made text none)) (drawn_table counted layout records output made text none) text.drawn.is_arranged.headline.widths
 output_keeps_to w counted layout records output made text none wide =

@@ -58,7 +58,7 @@ module _ (look : Look) (content : SelectedValue) (widths : List ℕ) (arranged :
   own_rows : drawn.rows ≡ map row_made counted
   own_rows = with_rows-rows (map row_made counted) (headed_table (markdown_look look) content.is_numbered content.columns (Some names))
 
-  -- a row shows these texts, and has cells of the first of them; the others are blank
+  -- the texts that a row shows: its cells are those of the first texts, and the other texts are blank
   record Line : Type 0 where
     given : List Shown
     all : List Shown
@@ -79,7 +79,7 @@ module _ (look : Look) (content : SelectedValue) (widths : List ℕ) (arranged :
       same [] = refl
       same (row ∷ rows) = ap (λ (more : List RowValue). row_of (line row) ∷ more) (same rows)
 
-  -- a row whose cells fit, of texts that are short and whole characters
+  -- a row whose cells fit, and whose texts are short and UTF-8
   record IsFitting (l : Line) : Type 0 where
     fits : FitsAmong (measured_rows drawn) (row_of l)
     short : All (IsShortAt drawn look l.given) l.all
@@ -90,7 +90,7 @@ module _ (look : Look) (content : SelectedValue) (widths : List ℕ) (arranged :
   all_fit_so : All (FitsAmong (measured_rows drawn)) (row_of header_line ∷ map (λ row. row_of (line row)) counted)
   all_fit_so = subst (All (FitsAmong (measured_rows drawn))) measured (all_fit (measured_rows drawn))
 
-  -- texts are short as they are drawn where their lines are
+  -- texts are short as they are drawn if their lines are
   shorts : (given shown : List Shown) → All (λ (s : Shown). EachLine IsShort (markdown_look look) s.text) shown → All (IsShortAt drawn look given) shown
   shorts given shown each =
       All-weaker (λ (s : Shown). EachLine IsShort (markdown_look look) s.text) (IsShortAt drawn look given)
@@ -153,7 +153,7 @@ module _ (look : Look) (content : SelectedValue) (widths : List ℕ) (arranged :
   abbrev line_of : Line → Text
   line_of l = content_line markdown_style markdown_style.content_lines (first_line drawn look l.given places)
 
-  -- a fitting row has no other line
+  -- a row that fits has only this line
   one_line : (style : ContentLineStyle) (l : Line) → 0 < length (sides content) → IsFitting l → drawn_row drawn infos style (row_of l) ≡ content_line drawn.style style (first_line drawn look l.given places) ∷ []
   one_line style l some own =
       let height : row_height drawn infos (row_of l) ≡ 1 = ap (height_of drawn look l.given) placed_columns ∙ one_high drawn look l.given l.all places (omega (arith, some, own.count)) (only l own) in
@@ -198,8 +198,7 @@ module _ (look : Look) (content : SelectedValue) (widths : List ℕ) (arranged :
 
 -- ---- outputs
 
--- an output for Markdown gives back the names, and below its second line each record that is drawn
--- in one line
+-- an output for Markdown gives back the names, and, below its second line, each drawn record in one line
 pub record GivesRecordsBack (counted : Option ℕ) (layout : Layout) (records : List (List Text))
     (output : Text) : Type 0 where
   pub content : SelectedValue
@@ -224,7 +223,7 @@ none : AllText []
 unfolding AllText
 none = tt
 
--- so it does if a column is drawn, for fields of every script up to 65535 terminal columns
+-- it does so if a column is drawn, for fields of every script up to 65535 terminal columns
 pub records_are_given_back : (counted : Option ℕ) (layout : Layout) (records : List (List Text)) (output : Text) → layout.look.is_markdown ≡ true → EachText (λ text. measure text ≤ 65535) layout.look records → All AllText records → (made : RendersRecords counted layout records output) → 0 < length (sides made.content) → GivesRecordsBack counted layout records output
 records_are_given_back counted layout records output is short text made some =
     let look = layout.look in

@@ -1,4 +1,4 @@
--- A line of an output for Markdown gives back the fields that it is made of.
+-- A line of an output for Markdown gives back its fields.
 use Rattle.std.proofs.Common.{◌≡◌, ◌==◌, ℕ, zero, suc, Bool, true, false, List, [], ◌∷◌, ◌++◌, Option, Some, None, arith, chars, cond, codes, encode_utf8_all, flat_map, length, map, ◌<◌, refl, ap, ap₂, sym, ◌∙◌, subst, append_assoc}
 use Rattle.std.specs.List.{All, AllZip}
 use Rattle.std.specs.Str.{IsUtf8, all_scalars}
@@ -20,7 +20,7 @@ use Rattle.csv_tables.specs.MarkdownLines.{parts_between_bars, read_part, withou
 
 -- ---- what is read back
 
--- what is to be read of a field: its characters as they are drawn
+-- the characters of a field that can be read back: those that are drawn
 abbrev pub read_field : Text → List ℕ
 read_field field = without_outer_spaces (chars (cleaned false field))
 
@@ -38,7 +38,7 @@ scalars-append (x ∷ xs) ys front back =
     let both = and_parts (scalar_of x) (all_scalars xs) front in
     rw both.0 (scalars-append xs ys both.1 back)
 
--- these characters are spelled by a text
+-- a text is the UTF-8 of these characters
 record Spells (cs : List ℕ) (text : Text) : Type 0 where
   scalar : all_scalars cs ≡ true
   spelled : encode_utf8_all cs ≡ text
@@ -57,7 +57,7 @@ Spells-spaces : (n : ℕ) → Spells (spaces n) (spaces n)
 Spells-spaces zero = Spells-nil
 Spells-spaces (suc n) = Spells-append (0x20 ∷ []) (spaces n) (0x20 ∷ []) (spaces n) (Spells-ascii 0x20 (omega arith) refl) (Spells-spaces n)
 
--- the characters of a text do, and those that are escaped
+-- the characters of a text are scalar values, and so are the escaped ones
 escaped-scalars : (is_marked : Bool) (before : Option ℕ) (cs : List ℕ) → all_scalars cs ≡ true → all_scalars (escaped_after is_marked before cs) ≡ true
 escaped-scalars is_marked before [] all = refl
 escaped-scalars is_marked before (c ∷ cs) all =
@@ -79,7 +79,7 @@ Spells-spaced a text b utf8 =
     Spells-append (spaces a) (escaped (chars text) ++ spaces b) (spaces a) (marked text ++ spaces b) (Spells-spaces a)
     (Spells-append (escaped (chars text)) (spaces b) (marked text) (spaces b) (Spells-marked text utf8) (Spells-spaces b))
 
--- they are the text's own
+-- the characters are those of the text
 chars_of : (cs : List ℕ) (text : Text) → Spells cs text → chars text ≡ cs
 chars_of cs text own = sym (chars_from_encodes cs text (cs, (own.scalar, own.spelled)) own.spelled)
 
@@ -89,16 +89,16 @@ chars_of cs text own = sym (chars_from_encodes cs text (cs, (own.scalar, own.spe
 abbrev pub IsPiece : Look → Shown → Text → Type 0
 IsPiece look shown piece = (a : ℕ) × (b : ℕ) × (piece ≡ spaces a ++ (field_text (markdown_look look) shown.text ++ spaces b))
 
--- it is whole characters
+-- the text is UTF-8
 abbrev pub IsWhole : Shown → Type 0
 IsWhole shown = IsUtf8 shown.text
 
 module _ (look : Look) where
-  -- the texts that are shown
+  -- the characters that are read from the columns
   abbrev read_columns : List Shown → List (List ℕ)
   read_columns columns = map (λ (shown : Shown). read_field shown.text) columns
 
-  -- pieces with a bar after each of them, as characters
+  -- pieces, each with a bar after it, as characters
   record AreRead (columns : List Shown) (text : Text) : Type 0 where
     cs : List ℕ
     spells : Spells cs text
@@ -123,7 +123,7 @@ module _ (look : Look) where
             ∙ ap₂ (λ (t : List ℕ) (ts : List (List ℕ)). t ∷ ts) (spaced-read a (chars text) b) more.reads;
       }
 
-  -- bars between pieces and one at the end are bars after each
+  -- bars between pieces and one at the end are a bar after each piece
   bars_after : (piece : Text) (pieces : List Text) → (piece ++ flat_map (λ (p : Text). 0x7C ∷ p) pieces) ++ 0x7C ∷ [] ≡ flat_map (λ (p : Text). p ++ 0x7C ∷ []) (piece ∷ pieces)
   bars_after piece [] = append_assoc piece [] (0x7C ∷ []) ∙ sym (append_assoc piece (0x7C ∷ []) [])
   bars_after piece (next ∷ pieces) =
@@ -133,7 +133,7 @@ module _ (look : Look) where
   bar : encode 0x7C ≡ 0x7C ∷ []
   bar = encode_ascii 0x7C (omega arith)
 
-  -- so a line with bars gives back the fields
+  -- a line with bars gives back the fields
   pub gives_back : (columns : List Shown) (pieces : List Text) → 0 < length columns → All IsWhole columns → AllZip (IsPiece look) columns pieces → GivesBack columns (content_line markdown_style markdown_style.content_lines pieces)
   gives_back [] pieces some whole each = absurd (omega (arith, some))
   gives_back (column ∷ columns) [] some whole each = absurd each

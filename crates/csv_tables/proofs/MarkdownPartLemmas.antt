@@ -1,4 +1,4 @@
--- A line for Markdown is cut at its bars, and its parts are read.
+-- A line for Markdown is split at its bars, and its parts are read.
 use Rattle.std.proofs.Common.{◌≡◌, ◌==◌, ◌&&◌, ◌||◌, ℕ, zero, suc, Bool, true, false, List, [], ◌∷◌, ◌++◌, Option, Some, None, cond, codes, refl, ap, sym, ◌∙◌, append_assoc, append-nil, eqb-true}
 use Rattle.std.proofs.lemmas.Bool.{or_parts}
 use Rattle.std.specs.List.{list_any}
@@ -8,7 +8,7 @@ use Rattle.csv_tables.specs.MarkdownLines.{before_spaces, parts_between_bars, pa
 
 -- ---- cutting
 
--- characters that stay within a part, whatever stands around them
+-- characters that stay within a part, whatever is around them
 abbrev Stays : List ℕ → Type 0
 Stays cs = (part rest : List ℕ) → parts_from false part (cs ++ rest) ≡ parts_from false (part ++ cs) rest
 
@@ -19,7 +19,7 @@ Stays-append : (xs ys : List ℕ) → Stays xs → Stays ys → Stays (xs ++ ys)
 Stays-append xs ys one other part rest =
     ap (parts_from false part) (append_assoc xs ys rest) ∙ one part (ys ++ rest) ∙ other (part ++ xs) rest ∙ ap (λ (p : List ℕ). parts_from false p rest) (append_assoc part xs ys)
 
--- a character that is no bar and no backslash
+-- a character other than a bar and a backslash
 Stays-one : (c : ℕ) → (c == 0x7C) ≡ false → (c == 0x5C) ≡ false → Stays (c ∷ [])
 Stays-one c bar backslash part rest = rw (bar, backslash) refl
 
@@ -31,7 +31,7 @@ Stays-spaces : (n : ℕ) → Stays (spaces n)
 Stays-spaces zero = Stays-nil
 Stays-spaces (suc n) = Stays-append (0x20 ∷ []) (spaces n) (Stays-one 0x20 refl refl) (Stays-spaces n)
 
--- a character that isn't special is none of these
+-- a character that isn't special is no such mark
 not_special : (is_marked : Bool) (before : Option ℕ) (c : ℕ) (rest : List ℕ) (mark : ℕ) → is_special is_marked before c rest ≡ false → is_mark mark ≡ true → (c == mark) ≡ false
 not_special is_marked before c rest mark none is_one = by_test (c == mark) refl
   where
@@ -45,7 +45,7 @@ not_special is_marked before c rest mark none is_one = by_test (c == mark) refl
     by_test false is = is
     by_test true is = let same : is_mark c ≡ true = ap is_mark (eqb-true c mark is) ∙ is_one in absurd (let both : true ≡ false = sym same ∙ no_mark in cc both)
 
--- what is escaped does
+-- an escaped text stays within a part
 Stays-escaped_after : (is_marked : Bool) (before : Option ℕ) (text : List ℕ) → Stays (escaped_after is_marked before text)
 Stays-escaped_after is_marked before [] = Stays-nil
 Stays-escaped_after is_marked before (c ∷ text) =
@@ -69,7 +69,7 @@ spaced a text b = spaces a ++ (escaped text ++ spaces b)
 Stays-spaced : (a : ℕ) (text : List ℕ) (b : ℕ) → Stays (spaced a text b)
 Stays-spaced a text b = Stays-append (spaces a) (escaped text ++ spaces b) (Stays-spaces a) (Stays-append (escaped text) (spaces b) (Stays-escaped_after false None text) (Stays-spaces b))
 
--- a character that is no backslash and no `<`, before others
+-- a character other than a backslash and `<`, before others
 other-unescaped : (c : ℕ) (rest : List ℕ) → (c == 0x5C) ≡ false → (c == 0x3C) ≡ false → unescaped (c ∷ rest) ≡ c ∷ unescaped rest
 other-unescaped c [] a b = refl
 other-unescaped c (x ∷ []) a b = rw a refl
@@ -81,7 +81,7 @@ after_backslash c [] = refl
 after_backslash c (x ∷ []) = refl
 after_backslash c (x ∷ y ∷ rest) = refl
 
--- what is escaped is read, whatever follows
+-- an escaped text is read back, whatever follows it
 escaped-unescaped : (is_marked : Bool) (before : Option ℕ) (text rest : List ℕ) → unescaped (escaped_after is_marked before text ++ rest) ≡ text ++ unescaped rest
 escaped-unescaped is_marked before [] rest = refl
 escaped-unescaped is_marked before (c ∷ text) rest =
@@ -129,7 +129,7 @@ first-append (suc n) text = one_less (without_last_spaces (spaces n ++ text)) �
 outer-spaced : (a : ℕ) (text : List ℕ) (b : ℕ) → without_outer_spaces (spaces a ++ (text ++ spaces b)) ≡ without_outer_spaces text
 outer-spaced a text b = first-append a (text ++ spaces b) ∙ ap without_first_spaces (last-append text b)
 
--- so a text is read of it
+-- the text is read from such a part
 pub spaced-read : (a : ℕ) (text : List ℕ) (b : ℕ) → read_part (spaced a text b) ≡ without_outer_spaces text
 spaced-read a text b = ap without_outer_spaces (spaced-unescaped a text b) ∙ outer-spaced a text b
 

@@ -27,7 +27,7 @@ use Rattle.csv_tables.proofs.BuiltLemmas.{blank_drawn}
 
 -- ---- one text line
 
--- no line feed is left in what is escaped
+-- an escaped text has no line feed
 no_line_feed : (is_marked : Bool) (before : Option ℕ) (cs : List ℕ) → NonePass (λ c. c == 0x0A) (escaped_after is_marked before cs)
 no_line_feed is_marked before [] = tt
 no_line_feed is_marked before (c ∷ cs) = by_tests (c == 0x0A) (is_special here before c cs) refl (no_line_feed here (Some c) cs)
@@ -40,7 +40,7 @@ no_line_feed is_marked before (c ∷ cs) = by_tests (c == 0x0A) (is_special here
     by_tests false true is more = (refl, (is, more))
     by_tests false false is more = (is, more)
 
--- so a field is one text line of its cell
+-- a field is one text line of its cell
 pub one_text_line : (text : Text) → (plain_cell (marked text)).text_lines ≡ marked text ∷ []
 one_text_line text =
     slice_split_none (λ b. b == 0x0A) (marked text)
@@ -48,7 +48,7 @@ one_text_line text =
 
 -- ---- one piece
 
--- a cell of one text line that fits is one piece
+-- a cell of one text line that fits gives one piece
 pub one_piece : (table : TableValue) (row : RowValue) (info : ColumnInfo) (cell : CellValue) (text : Text) → table.custom_styling ≡ false → should_style table ≡ false → row.max_height ≡ None → cell.text_lines ≡ text ∷ []
     → measure text ≤ info.content_width → cell_pieces table row info cell ≡ padded cell info (measure text) text ∷ []
 one_piece table row info cell text plain unstyled uncut single fits =
@@ -60,7 +60,7 @@ one_piece table row info cell text plain unstyled uncut single fits =
     fitting : (m n : ℕ) → m ≤ n → nat_le m n ≡ true
     fitting m n below = grind (arith, nat_tests, below)
 
--- it is the text between spaces
+-- the piece is the text between spaces
 padded_is : (cell : CellValue) (info : ColumnInfo) (columns : ℕ) (text : Text) → (a : ℕ) × (b : ℕ) × (padded cell info columns text ≡ spaces a ++ (text ++ spaces b))
 padded_is cell info columns text = (
   info.padding.0 + before,
@@ -77,11 +77,11 @@ padded_is cell info columns text = (
 
 -- ---- the columns as they are drawn
 
--- a column at its position, as wide as f says
+-- a column at its position, with content width `f`
 abbrev pub placed : (ℕ → ℕ) → ℕ × ColumnValue → ℕ × ColumnInfo
 placed f p = (p.0, info_of p.1 (f p.0))
 
--- new columns whose widths f gives
+-- new columns with content widths `f`
 infos_from : (f : ℕ → ℕ) (widths : List ℕ) (n : ℕ) (columns : List ColumnValue) (ws : List ℕ) → length ws ≡ length columns → ((k : ℕ) → get_or widths (n + k) 0 ≡ get_or ws k 0) → All IsNewColumn columns
     → All (λ (p : ℕ × ColumnValue). slice_index widths p.0 ≡ f p.0) (enumerate_from n columns)
     → filter (λ (p : ℕ × ColumnInfo). not p.1.is_hidden) (enumerate_from n (map (λ (p : ColumnValue × ℕ). info_of p.0 p.1) (zip columns ws))) ≡ map (placed f) (enumerate_from n columns)
@@ -104,7 +104,7 @@ infos_placed table f widths same each are =
 
 -- ---- the cells of a row fit
 
--- a cell of a row at a position is at most as wide as its column's content
+-- a cell of a row is at most as wide as its column's content
 abbrev pub FitsAmong : List RowValue → RowValue → Type 0
 FitsAmong rows row = (i : ℕ) (cell : CellValue) → slice_get row.cells i ≡ Some cell → cell_content_width cell ≤ greatest (map cell_content_width (filter_map (λ (r : RowValue). slice_get r.cells i) rows))
 
@@ -146,11 +146,11 @@ module _ (table : TableValue) (look : Look) (shown : List Shown) where
   IsCellAt column None = column.text ≡ []
   IsCellAt column (Some cell) = cell ≡ cell_at column
 
-  -- a text is short as it is drawn
+  -- the text of a column is short as it is drawn
   abbrev pub IsShortAt : Shown → Type 0
   IsShortAt column = measure (text_at column) ≤ 65535
 
-  -- a column's only piece
+  -- the only piece of a column
   pub record IsOnly (column : Shown) (p : ℕ × ColumnInfo) : Type 0 where
     pub only : Text
     pub is_only : pieces_at table row p ≡ only ∷ []

@@ -1,4 +1,4 @@
--- The lines of a table for Markdown are equally wide, the line below the header among them.
+-- The lines of a table for Markdown are equally wide, including the line below the header.
 use Rattle.std.proofs.Common.{◌≡◌, ◌<◌, ◌≤◌, ℕ, zero, suc, ◌+◌, ◌*◌, ◌-◌, Bool, true, false, List, [], ◌∷◌, ◌++◌, Option, Some, None, arith, codes, cond, flat_map, length, map, max, refl, sym, ap, ap₂, ◌∙◌, subst, filter, not, slice_get, sum, sum_by, zip, option_to_list, unwrap_or}
 use Rattle.std.specs.List.{All, AllByRecursion, cons_option, enumerate_from, filter_map, range_with_len, repeat}
 use Rattle.std.specs.Option.{MatchOption}
@@ -50,16 +50,16 @@ use Rattle.csv_tables.proofs.ReachedLemmas.{reached-length}
 
 -- ---- a header with a cell for each column
 
--- a row with a cell for each of so many columns, or for the first ones
+-- a row with at most n cells
 abbrev HasCells : ℕ → RowValue → Type 0
 HasCells n row = length row.cells ≤ n
 
--- a table with this header and so many columns
+-- a table with this header and n columns
 pub record IsHeaded (n : ℕ) (header : RowValue) (table : TableValue) : Type 0 where
   pub has_header : table.header ≡ Some header
   pub count : length table.columns ≡ n
 
--- rows of no more cells keep both
+-- rows of at most n cells keep the header and the columns
 rows_keep : (n : ℕ) (header : RowValue) (rows : List RowValue) (table : TableValue) → All (HasCells n) rows → IsHeaded n header table → IsHeaded n header (with_rows rows table)
 rows_keep n header [] table each own = own
 rows_keep n header (row ∷ rows) table each own =
@@ -67,7 +67,7 @@ rows_keep n header (row ∷ rows) table each own =
     let grown = no_fewer_columns (length row.cells) table.columns in
     rows_keep n header rows (with_row row table) (All-tail (HasCells n) row rows each) (record { has_header = own.has_header; count = omega (arith, grown, cells, own.count) })
 
--- a column with a cell in the first row has a content
+-- a column with a cell in the first row has a content width of at least 1
 counted : (i : ℕ) (row : RowValue) (rows : List RowValue) → i < length row.cells → 1 ≤ greatest (map cell_content_width (filter_map (λ (r : RowValue). slice_get r.cells i) (row ∷ rows)))
 counted i row rows within = by_cells row.cells within
   where
@@ -93,7 +93,7 @@ all_shown n (column ∷ columns) each =
     ap (λ (o : Option ColumnConstraint). cond (not (is_hidden_constraint o)) ((n, column) ∷ shown_from (n + 1) columns) (shown_from (n + 1) columns)) own.no_constraint
     ∙ ap (λ (ps : List (ℕ × ColumnValue)). (n, column) ∷ ps) more
 
--- they have two paddings each
+-- new columns have two paddings each
 paddings : (n : ℕ) (columns : List ColumnValue) → All IsNewColumn columns → sum_by (λ (p : ℕ × ColumnValue). column_padding p.1) (enumerate_from n columns) ≡ 2 * length columns
 paddings n [] each = refl
 paddings n (column ∷ columns) each =
@@ -101,7 +101,7 @@ paddings n (column ∷ columns) each =
     let more = paddings (n + 1) columns (All-tail IsNewColumn column columns each) in
     omega (arith, own, more, sum_by-cons (λ (p : ℕ × ColumnValue). column_padding p.1) (n, column) (enumerate_from (n + 1) columns))
 
--- a column's part of the line below the header has three characters beside its width
+-- a column's part of the line below the header has three characters more than its content width
 part_length : (side : Option CellAlignment) (width : ℕ) → length (rule_part (side, width)) ≡ width + 3
 part_length side width =
     let all = length-append (repeat (width + 1) (codes "-")) (if is_right side then codes ":|" else codes "-|") in
@@ -115,7 +115,7 @@ part_length side width =
     by_side true = refl
     by_side false = refl
 
--- so all parts have three for each column beside the widths, where f gives them and none is 0
+-- all parts together have three characters more for each column, if no width is 0
 parts_length : (f : ℕ → ℕ) (n : ℕ) (drawn : List (Option CellAlignment)) (columns : List ColumnValue) → length columns ≡ length drawn → ((i : ℕ) → i < length columns → 1 ≤ f (n + i))
     → length (flat_map rule_part (zip drawn (map f (range_with_len n (length columns))))) ≡ 3 * length columns + sum (map (λ (p : ℕ × ColumnValue). max 1 (f p.0)) (enumerate_from n columns))
 parts_length f n [] [] same some = refl
@@ -135,7 +135,7 @@ parts_length f n (d ∷ drawn) (column ∷ columns) same some =
 
 -- ---- a drawing without columns
 
--- in this style a table without columns has no line
+-- without columns, a table in this style has no line
 module _ (table : TableValue) (own : table.style ≡ markdown_style) where
   no_header : (header : Option RowValue) → drawn_header table [] header ≡ []
   no_header None = refl
@@ -175,7 +175,7 @@ module _ (look : Look) (content : SelectedValue) where
   pub known : Built (markdown_look look) Any (markdown_content content) table
   known = any_built false false (markdown_look look) (markdown_content content)
 
-  -- a cell for each column
+  -- the header has a cell for each column
   cells_count : length header.cells ≡ length (sides content)
   cells_count = length-map (shown_names (markdown_look look) content.is_numbered content.columns (unwrap_or content.names [])) _ ∙ names-length (markdown_look look) content.is_numbered content.columns (unwrap_or content.names []) ∙ sym (sides-length content)
 
@@ -195,7 +195,7 @@ module _ (look : Look) (content : SelectedValue) where
           let cells = length-map shown (λ (s : Shown). cell_for (markdown_look look) s.alignment s.text) in
           omega (arith, few, cells, row-length (markdown_look look) false content.is_numbered (columns_within r.1 content.columns) r, sides-length content)
 
-  -- its rows as they are measured
+  -- the rows as they are measured
   pub rows_measured : measured_rows table ≡ header ∷ map (row_measured false) table.rows
   rows_measured =
       let custom : table.custom_styling ≡ false = ap (λ (t : TableValue). t.custom_styling) known.is in
@@ -250,7 +250,7 @@ module _ (look : Look) (content : SelectedValue) where
         let bar : length (rule_line (sides content) (max_content_widths table)) ≡ 1 + length (flat_map rule_part (zip (sides content) (max_content_widths table))) = omega arith in
         omega (arith, whole, sums, two_each, count, borders, parts, printable, bar, headed.count, some)
 
-  -- so are all lines as they are seen
+  -- all visible lines are equally wide
   pub markdown_lines_are_straight : EachOf (All (EachLine IsShort (markdown_look look))) (markdown_content content) → (visible : Bool) → IsSeenTable visible (markdown_look look) table → (arranged : ArrangedValue) → IsArrangedTable table arranged
       → AreEquallyWide (seen_lines visible (markdown_lines (markdown_rule look content) arranged))
   markdown_lines_are_straight each visible seen arranged is = (
@@ -292,7 +292,7 @@ module _ (look : Look) (content : SelectedValue) where
           absurd (omega (arith, some, empty))
       some_columns some (column ∷ columns) own = rw own (omega arith)
 
--- no control character is visible of them
+-- no control character is visible in them
 clear_markdown : (visible : Bool) (look : Look) (content : SelectedValue) (arranged : ArrangedValue) → IsArrangedTable (markdown_table look content) arranged → IsSeenTable visible (markdown_look look) (markdown_table look content)
     → visible ≡ true → All HasNoControl (seen_lines visible (markdown_lines (markdown_rule look content) arranged))
 clear_markdown false look content arranged drawn plain is = absurd (cc is)
@@ -303,12 +303,12 @@ clear_markdown true look content arranged drawn free is =
 
 -- ---- outputs
 
--- a field is drawn as it is for Markdown
+-- a field is drawn in the same way for Markdown
 pub drawn_for_markdown : (look : Look) → look.is_markdown ≡ true → (field : Text) → EachLine IsShort look field → EachLine IsShort (markdown_look look) field
 drawn_for_markdown look is field own =
     subst (λ (b : Bool). All IsShort (plain_cell (if b then marked (cleaned false field) else unless_blank (cleaned look.has_sequences field))).text_lines) is own
 
--- there are names, none in a header that is blank
+-- the header has these names, or none if it is blank
 pub with_names : (P : List Text → Type 0) → P [] → (content : SelectedValue) → EachOf P content → EachOf P (markdown_content content)
 with_names P none content own = record { names = λ names is. by_names content.names own.names names is; rows = own.rows }
   where

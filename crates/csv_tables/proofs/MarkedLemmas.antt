@@ -24,7 +24,7 @@ escaped-harmless is_marked before (c ∷ cs) (own, more) = by_tests (c == 0x0A) 
     by_tests false true rest = (refl, (own, rest))
     by_tests false false rest = (own, rest)
 
--- nothing harmful stands in a text for Markdown, where nothing harmful stands in the text
+-- an escaped text has harmful characters only if the text has some
 pub marked-harmless : (text : Text) → NonePass is_harmful (chars text) → HasNothingHarmful (marked text)
 marked-harmless text none = (escaped_after false None (chars text), refl, escaped-harmless false None (chars text) none)
 
@@ -67,6 +67,6 @@ unescaped_after before (c ∷ cs) none =
     ∙ ap₂ (λ (special feed : Bool). cond feed (codes "<br>") (cond (special || false) (0x5C ∷ c ∷ []) (c ∷ [])) ++ escaped_after false (Some c) cs) own.1 own.0
     ∙ ap (λ (rest : List ℕ). c ∷ rest) (unescaped_after (Some c) cs each.1)
 
--- a text of such characters is its own text for Markdown
+-- a text of such characters stays as it is for Markdown
 pub marked_stays : (text : Text) → IsUtf8 text → list_any may_be_escaped (chars text) ≡ false → marked text ≡ text
 marked_stays text utf8 none = ap encode_utf8_all (unescaped_after None (chars text) none) ∙ encodes-chars text utf8

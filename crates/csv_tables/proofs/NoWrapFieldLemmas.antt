@@ -1,4 +1,4 @@
--- Fields that aren't broken, as they are seen.
+-- The visible text of fields that aren't broken.
 use Rattle.std.proofs.Common.{◌≡◌, ◌&&◌, ◌||◌, Bool, true, false, refl, ◌≤◌, ◌+◌, ◌-◌, ◌*◌, ℕ, zero, suc, List, [], ◌∷◌, ap, arith, length, map, max, nat_le}
 use Rattle.std.proofs.lemmas.Bool.{and_parts}
 use Rattle.std.proofs.lemmas.Bool.Decides.{nat_tests}
@@ -12,7 +12,7 @@ use Rattle.comfy_table.proofs.RowCellLemmas.{clear_measured}
 use Rattle.comfy_table.specs.TableValue.{TableValue, cell_content_width, column_cells, column_content_width, measured_cell}
 use Rattle.csv_tables.specs.NoWrap.{cell_nowrap_width, cell_word_width, field_width, is_nowrap, nowrap_width, word_width}
 
--- a text has no more characters than bytes
+-- a text has at most as many characters as bytes
 few_after : (n c : ℕ) (bs : Text) → length (chars_after n c bs) ≤ 1 + length bs
 few_after zero c [] = omega arith
 few_after zero c (b ∷ bs) = let more = few_after (continuation_len b) (lead_bits b) bs in omega (arith, more)
@@ -24,7 +24,7 @@ unfolding chars
 few-chars [] = omega arith
 few-chars (b ∷ bs) = let more = few_after (continuation_len b) (lead_bits b) bs in omega (arith, more)
 
--- what three tests say together
+-- three tests in one
 pub first-two : (a b c : Bool) → a ≡ true → b ≡ true → true ≡ a && (b || c)
 first-two a b c one other = rw (one, other) refl
 
@@ -34,7 +34,7 @@ last a b c one none = rw (one, none) refl
 pub none : (a b c : Bool) → a ≡ false → false ≡ a && (b || c)
 none a b c is = rw is refl
 
--- the width of a cell of one text line without escape sequences is that of its text
+-- the width of a number or date in a cell of one text line without escape sequences is that of the text
 pub of_one_line : (table : TableValue) (room : ℕ) (cell : CellValue) (text : Text) → cell.text_lines ≡ text ∷ [] → list_any has_escape cell.text_lines ≡ false
     → nowrap_width room text ≡ cell_nowrap_width room (measured_cell table cell)
 of_one_line table room cell text one clear =
@@ -42,7 +42,7 @@ of_one_line table room cell text one clear =
     let lines = ap (λ (ls : List Text). greatest (map (nowrap_width room) ls)) one in
     omega (arith, measured, lines)
 
--- so is its widest word
+-- the widest word of such a cell is that of the text
 pub words_of_one_line : (table : TableValue) (cell : CellValue) (text : Text) → cell.text_lines ≡ text ∷ [] → list_any has_escape cell.text_lines ≡ false → word_width text ≡ cell_word_width (measured_cell table cell)
 words_of_one_line table cell text one clear =
     let measured = ap cell_word_width (clear_measured table cell clear) in

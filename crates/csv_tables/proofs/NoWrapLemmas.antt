@@ -1,4 +1,4 @@
--- What tables that keep numbers and dates whole are made of.
+-- Tables that keep numbers and dates whole.
 use Rattle.std.proofs.Common.{◌≡◌, ◌<◌, ◌≤◌, ◌+◌, ℕ, zero, suc, Bool, List, [], ◌∷◌, Some, ◌-◌, ◌^◌, cond, filter, get_or, length, map, min, nat_le, set, max, nat_lt, slice_get, sum_by, unwrap_or, true, false, ◌||◌, refl, sym, ap, ◌∙◌, arith, inl, inr}
 use Rattle.std.specs.List.{All, range_with_len}
 use Rattle.std.proofs.lemmas.Bool.{lt-ltb, ltb-true}
@@ -18,7 +18,7 @@ use Rattle.csv_tables.specs.declared.needs.Words.{Words}
 use Rattle.csv_tables.specs.declared.needs.Words.TheVariants.{Broken, OfFields, OfNames}
 use Rattle.csv_tables.specs.NoWrap.{Wanted, boundary_for, framed_width, reserved_width, given_in, greatest_level, has_room, kept_of_name, kept_of_word, min_width, with_min_widths, with_most_words, with_words, width_at_level, with_content, with_lower_bounds, with_second}
 
--- what columns keep leaves room for paddings, where what they need does
+-- kept widths leave room for paddings if the needed widths do
 pub kept_within : (kept needed : ℕ → ℕ) → ((i : ℕ) → kept i ≤ needed i) → (n count : ℕ) → sum_by (λ content. 2 + content) (map needed (range_with_len n count)) ≤ 65535 → All (λ content. content ≤ 65533) (map kept (range_with_len n count))
 kept_within kept needed less n zero within = All-nil (λ (content : ℕ). content ≤ 65533)
 kept_within kept needed less n (suc count) within =
@@ -33,16 +33,16 @@ given_is_shared level level2 wanted table i = by_test (unwrap_or (slice_get want
     by_test true = omega arith
     by_test false = omega arith
 
--- a boundary is the content with its paddings, where there is content
+-- a lower boundary is the content width with its paddings, if there is content
 pub boundary-some : (content : ℕ) → 0 < content → boundary_for content ≡ content + 2
 boundary-some content some = ap (λ (b : Bool). if b then content + 2 else 0) (lt-ltb 0 content some)
 
--- and never more than that
+-- a lower boundary is at most the content width with its paddings
 pub boundary-within : (content : ℕ) → boundary_for content ≤ content + 2
 boundary-within zero = omega arith
 boundary-within (suc n) = omega (arith, boundary-some (suc n) (omega arith))
 
--- a sum that stopped at the greatest number is above each width
+-- a sum that stopped at the greatest number is greater than each width
 pub stopped : (n w : ℕ) → w ≤ 65535 → nat_le (min (2 ^ 64 - 1) n) w ≡ nat_le n w
 stopped n w below = grind (arith, nat_tests)
 
@@ -57,22 +57,22 @@ level_more passes n level next =
     ∙ greatest-append (filter passes (map (λ l. l) (range_with_len 1 n))) (cond (passes level) (level ∷ []) [])
     ∙ ap (λ ls. max (greatest (filter passes ls)) (greatest (cond (passes level) (level ∷ []) []))) (map-id (range_with_len 1 n))
 
--- none is above the last one
+-- the greatest passing level is at most the last one
 levels_within : (passes : ℕ → Bool) (a n : ℕ) → greatest (filter passes (range_with_len (a + 1) n)) ≤ a + n
 levels_within passes a zero = omega arith
 levels_within passes a (suc n) = grind (arith, levels_within passes (a + 1) n)
 
--- a level that doesn't pass isn't the greatest that does
+-- a level that doesn't pass isn't the greatest one that passes
 pub failed_level : (passes : ℕ → Bool) (level : ℕ) → 0 < level → passes level ≡ false → greatest_level passes (level - 1) ≡ greatest_level passes level
 failed_level passes level some is = grind (arith, level_more passes (level - 1) level (omega (arith, some)))
 
--- and one that does is
+-- a level that passes is the greatest one up to itself
 pub passed_level : (passes : ℕ → Bool) (level : ℕ) → 0 < level → passes level ≡ true → level ≡ greatest_level passes level
 passed_level passes level some is = grind (arith, level_more passes (level - 1) level (omega (arith, some)), levels_within passes 0 (level - 1))
 
 -- ---- words
 
--- the words that are kept have room, if those have that are wanted
+-- the words that are kept whole have room if the wanted ones do
 pub most_fit : (fits : ℕ → Wanted → Bool) (width : ℕ) (wanted : Wanted) → fits 8 wanted ≡ true → fits 8 (with_most_words fits width wanted) ≡ true
 most_fit fits width wanted room = by_tests (fits width wanted) (fits 8 (with_words OfFields wanted)) (fits 8 (with_words OfNames wanted)) refl refl
   where
@@ -83,7 +83,7 @@ most_fit fits width wanted room = by_tests (fits width wanted) (fits 8 (with_wor
     by_tests false false true fields names = names
     by_tests false false false fields names = room
 
--- and other words change no columns of numbers
+-- other words don't change the columns of numbers and dates
 pub most_nowrap : (fits : ℕ → Wanted → Bool) (width : ℕ) (wanted : Wanted) → (with_most_words fits width wanted).nowrap ≡ wanted.nowrap
 most_nowrap fits width wanted = by_tests (fits width wanted) (fits 8 (with_words OfFields wanted)) (fits 8 (with_words OfNames wanted))
   where
@@ -95,13 +95,13 @@ most_nowrap fits width wanted = by_tests (fits width wanted) (fits 8 (with_words
 
 -- ---- two terminal columns
 
--- what is kept of a name is nothing, or two at least, if a wide word of it is
+-- the width kept for a name is 0, or at least 2 for a wide word
 pub name-two : (words : Words) (width : ℕ) → (width ≡ 0) ⊎ (2 ≤ width) → (kept_of_name words width ≡ 0) ⊎ (2 ≤ kept_of_name words width)
 name-two Broken width two = inl refl
 name-two OfNames width two = two
 name-two OfFields width two = two
 
--- so is what is kept of a word of fields
+-- so is the width kept for a word of fields
 pub word-two : (words : Words) (width : ℕ) → (kept_of_word words width ≡ 0) ⊎ (2 ≤ kept_of_word words width)
 word-two Broken width = inl refl
 word-two OfNames width = inl refl
@@ -114,7 +114,7 @@ word-two OfFields width = by_tests (nat_lt 8 width) (nat_lt 40 width) refl
 
 -- ---- tables
 
--- whether there is room
+-- the table by the test for room
 pub kept-test : (width : ℕ) (wanted : Wanted) (table : TableValue) (b : Bool) → has_room (Some width) wanted table ≡ b
     → with_min_widths (Some width) wanted table ≡ (if b then with_lower_bounds (given_in width wanted table) table else table)
 kept-test width wanted table b is = ap (λ b. if b then with_lower_bounds (given_in width wanted table) table else table) is
@@ -128,13 +128,13 @@ framed_pair style names field =
     let other = sum_by-cons (λ (content : ℕ). 2 + content) field [] in
     omega (arith, first, other)
 
--- the second column is replaced
+-- the constraint of the second column is replaced
 pub with_second-set : (columns : List ColumnValue) (content : ℕ) (default : ColumnValue) → 1 < length columns → set columns 1 (with_content content (get_or columns 1 default)) ≡ with_second content columns
 with_second-set [] content default below = absurd (omega (arith, below))
 with_second-set (a ∷ []) content default below = absurd (omega (arith, below))
 with_second-set (a ∷ b ∷ more) content default below = refl
 
--- or there is none
+-- there is no second column
 pub with_second-none : (columns : List ColumnValue) (content : ℕ) → length columns ≤ 1 → with_second content columns ≡ columns
 with_second-none [] content few = refl
 with_second-none (a ∷ []) content few = refl

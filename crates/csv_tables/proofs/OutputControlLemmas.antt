@@ -57,15 +57,15 @@ use Rattle.csv_tables.specs.Laws.{HasLines, IsOutputWith}
 abbrev pub HasNoneReplaced : Text → Type 0
 HasNoneReplaced text = NoCharPasses is_replaced text
 
--- nor of whole characters
+-- such a text of UTF-8
 abbrev pub IsClearText : Text → Type 0
 IsClearText text = IsUtf8 text × HasNoneReplaced text
 
--- no such character is visible of a text line
+-- the visible part of a text line is such a text
 abbrev IsClearLine : Bool → Text → Type 0
 IsClearLine keeps line = IsClearText (visible_of keeps line)
 
--- nor of any in a row
+-- the same for all text lines of a row
 abbrev IsClearRow : Bool → RowValue → Type 0
 IsClearRow keeps row = All (λ (cell : CellValue). All (IsClearLine keeps) cell.text_lines) row.cells
 
@@ -91,7 +91,7 @@ clear_field look field utf8 =
 clear_fields : (look : Look) (fields : List Text) → AllText fields → All (EachLine (IsClearLine look.has_sequences) look) fields
 clear_fields look fields text = All-weaker IsUtf8 (EachLine (IsClearLine look.has_sequences) look) (clear_field look) fields (text_fields fields text)
 
--- such a row holds none as it is measured
+-- such a row has no replaced character as it is measured
 clear_measured : (keeps : Bool) (row : RowValue) → IsClearRow keeps row → IsRowOf IsClearText (row_measured keeps row)
 clear_measured true row own =
     All-map (λ (cell : CellValue). All IsClearText cell.text_lines) visible_cell row.cells
@@ -129,7 +129,7 @@ separated_without false look is = condensed_without look.style is
 
 -- ---- tables without replaced characters
 
--- none is visible of the texts of the table, and it has none in its indicator and style
+-- no replaced character is visible in the texts of the table, and none is in its indicator and style
 pub record IsHarmlessTable (table : TableValue) : Type 0 where
   pub rows : All (IsRowOf IsClearText) (measured_rows table)
   pub indicator : HasNoneReplaced table.indicator
@@ -138,7 +138,7 @@ pub record IsHarmlessTable (table : TableValue) : Type 0 where
 each_row : (P Q : Text → Type 0) → ((text : Text) → P text → Q text) → (rows : List RowValue) → All (IsRowOf P) rows → All (IsRowOf Q) rows
 each_row P Q weaker rows own = All-weaker (IsRowOf P) (IsRowOf Q) (λ row cells. All-weaker (λ (cell : CellValue). All P cell.text_lines) (λ (cell : CellValue). All Q cell.text_lines) (λ cell lines. All-weaker P Q weaker cell.text_lines lines) row.cells cells) rows own
 
--- so no control characters
+-- a text without replaced characters has no control characters
 pub no_controls : (text : Text) → HasNoneReplaced text → HasNoControl text
 no_controls text none = (none.0, none.1, unreplaced none.0 none.2)
   where
@@ -161,7 +161,7 @@ free_of_controls table is =
       characters = style_without_controls table.style is.style;
     }
 
--- what is shown of a text has none, however it is drawn
+-- the visible part of a text without replaced characters has none, however it is drawn
 replaced_kept : KeptByDrawing HasNoneReplaced (λ shown text. HasNoneReplaced shown)
 replaced_kept =
     record {
@@ -171,7 +171,7 @@ replaced_kept =
       of_closed = λ text none. none;
     }
 
--- so none is in a line that is drawn without styles
+-- a line that is drawn without styling has none
 pub unstyled_lines : (table : TableValue) (widths : List ℕ) → length widths ≡ length table.columns → IsHarmlessTable table → All HasNoneReplaced (drawing (unstyled table) widths)
 unstyled_lines table widths long is =
     All-from_recursion HasNoneReplaced (drawing (unstyled table) widths)
@@ -180,7 +180,7 @@ unstyled_lines table widths long is =
     (each_row IsClearText IsUtf8 (λ text own. own.0) (measured_rows table) is.rows)
     (drawn_of_shown HasNoneReplaced table widths long (shown_of_all HasNoneReplaced table (each_row IsClearText HasNoneReplaced (λ text own. own.1) (measured_rows table) is.rows)))))
 
--- and none is visible of one that is drawn with them
+-- in a line that is drawn with styling, none is visible
 pub harmless_lines : (table : TableValue) (lines : List Text) → IsTableDrawing table lines → IsHarmlessTable table → All (λ (line : Text). HasNoneReplaced (visible_text line)) lines
 harmless_lines table lines drawn is =
     All-of_map HasNoneReplaced visible_text lines
@@ -231,7 +231,7 @@ free_output look is content text is_expanded has = free_of_controls _ (harmless_
 
 -- ---- lines of our own
 
--- a printable character is ASCII and no control character
+-- printable ASCII is ASCII, is never replaced, and isn't ESC
 printable_is_plain : (c : ℕ) → is_in_range 0x20 0x7E c ≡ true → (c < 128) × (is_replaced c ≡ false) × ((c == 0x1B) ≡ false)
 printable_is_plain c is = (grind (arith, tests), grind (arith, tests), grind (arith, tests))
 
@@ -242,7 +242,7 @@ printable_is_clear (c ∷ cs) all =
     let own = printable_is_plain c both.0 in
     NoCharPasses-append is_replaced (c ∷ []) cs (c ∷ [], append-nil _ ∙ encode_ascii c own.0, (own.1, tt)) (printable_is_clear cs both.1)
 
--- it is seen as it is
+-- printable ASCII is visible unchanged
 shown_before : (text rest : Text) → is_printable_ascii text ≡ true → visible_text (text ++ rest) ≡ text ++ visible_text rest
 shown_before [] rest all = refl
 shown_before (c ∷ cs) rest all =
@@ -298,7 +298,7 @@ note_is_printable noun n (Some m) =
 
 -- ---- outputs of good lines
 
--- a text of good lines, each with a line feed, is good; so are printable lines
+-- G holds for a text whose lines have L and end with line feeds, and L holds for printable lines
 pub record IsOfLines (L G : Text → Type 0) : Type 0 where
   pub nothing : G []
   pub before : (line rest : Text) → L line → G rest → G (line ++ 0x0A ∷ rest)
@@ -317,7 +317,7 @@ module _ (L G : Text → Type 0) (good : IsOfLines L G) where
       let line = record_heading noun n m in
       subst G (sym (append_assoc line (codes "\n") rest)) (good.before line rest (good.printable line (heading_is_printable noun n m)) more)
 
-  -- the line on records that aren't drawn
+  -- the note about records that aren't drawn
   note_is_good : (noun : Noun) (is_markdown : Bool) (limit : Option ℕ) (count : Option ℕ) → G (note_for noun is_markdown limit count)
   note_is_good noun is_markdown None count = good.nothing
   note_is_good noun is_markdown (Some limit) count = by_test (are_more limit count)
@@ -336,7 +336,7 @@ module _ (L G : Text → Type 0) (good : IsOfLines L G) where
       by_test true = by_markdown is_markdown
       by_test false = good.nothing
 
-  -- a text of such lines, and what follows
+  -- a text of such lines, and the text after it
   after_text : (is_expanded : Bool) (content : SelectedValue) (lines : List Text) (text rest : Text) → HasLines is_expanded content lines text → All L lines → G rest → G (text ++ rest)
   after_text false content lines text rest are none more = subst (λ (t : Text). G (t ++ rest)) (sym are.joined) (after_lines lines rest none more)
   after_text true content lines text rest (parts, within, unbroken, is) none more =
@@ -373,7 +373,7 @@ pub line_feed : HasNothingHarmful (0x0A ∷ [])
 unfolding encode
 line_feed = (0x0A ∷ [], refl, (refl, tt))
 
--- a line without replaced characters, a line feed, and what follows
+-- a line without replaced characters, a line feed, and the text after them
 pub harmless_before : (line rest : Text) → HasNoneReplaced line → HasNothingHarmful rest → HasNothingHarmful (line ++ 0x0A ∷ rest)
 harmless_before line rest none more =
     NoCharPasses-append is_harmful line (0x0A ∷ rest) (none.0, none.1, weaker none.0 none.2) (NoCharPasses-append is_harmful (0x0A ∷ []) rest line_feed more)
@@ -390,7 +390,7 @@ clear_of_lines =
       printable = λ line all. subst HasNoneReplaced (sym (printable_is_seen line all)) (printable_is_clear line all);
     }
 
--- the line below a header for Markdown is clear
+-- the line below a header for Markdown is printable ASCII
 part_is_printable : (column : Option CellAlignment) (width : ℕ) → is_printable_ascii (rule_part (column, width)) ≡ true
 part_is_printable column width = both_printable (repeat (width + 1) (codes "-")) _ (dashes (width + 1)) (by_side (is_right column))
   where
@@ -410,7 +410,7 @@ rule_is_printable columns widths = parts columns widths
     parts (column ∷ columns) [] = refl
     parts (column ∷ columns) (width ∷ widths) = both_printable (rule_part (column, width)) (flat_map rule_part (zip columns widths)) (part_is_printable column width) (parts columns widths)
 
--- no replaced character is visible of that line
+-- no replaced character is visible in that line
 pub rule_is_clear : (columns : List (Option CellAlignment)) (widths : List ℕ) → HasNoneReplaced (visible_text (rule_line columns widths))
 rule_is_clear columns widths =
     let printable = rule_is_printable columns widths in
@@ -426,7 +426,7 @@ markdown_lines_of look content text drawn =
           (λ some. printable_unbroken (markdown_rule look content) (rule_is_printable (sides content) _));
     }
 
--- it has names, be they blank
+-- the drawn records have names, which may be blank
 pub titled : (content : SelectedValue) → EachOf AllText content → EachOf AllText (markdown_content content)
 unfolding AllText
 titled content own = record { names = λ names is. by_names content.names own.names names is; rows = own.rows }
@@ -435,7 +435,7 @@ titled content own = record { names = λ names is. by_names content.names own.na
     by_names None own names is = let same : [] ≡ names = cc is in subst AllText same tt
     by_names (Some n) own names is = let same : n ≡ names = cc is in subst AllText same (own n refl)
 
--- and no replaced character
+-- the table for Markdown has no visible replaced characters
 pub harmless_markdown : (look : Look) (content : SelectedValue) → EachOf AllText content → IsHarmlessTable (markdown_table look content)
 harmless_markdown look content text = harmless_rows (markdown_look look) refl (markdown_content content) (titled content text)
 
@@ -457,7 +457,7 @@ table_is_clear counted layout records output look text made drawn_text none =
     output_of_lines IsClear (λ (text : Text). HasNothingHarmful (visible_text text)) clear_of_lines counted layout records output (drawn counted layout records output made drawn_text none) (with_lines counted layout records output made drawn_text none (unbroken_without layout.look.style look))
     (harmless_lines (separated_table has (output_table drawn_text.is_expanded layout.look made.content)) _ drawn_text.drawn.is_arranged.headline (harmless_table layout.look look made.content own drawn_text.is_expanded has))
 
--- nothing harmful is visible of an output for records that are text
+-- no harmful character is visible in an output for records of UTF-8
 pub output_without_controls : (counted : Option ℕ) (layout : Layout) (records : List (List Text)) (output : Text) → IsHarmlessStyle layout.look.style → All AllText records → RendersRecords counted layout records output → HasNothingHarmful (visible_text output)
 output_without_controls counted layout records output look text made = by_markdown layout.look.is_markdown refl made.is_text
   where

@@ -1,4 +1,4 @@
--- The texts of tables: a line below the first one.
+-- The texts of tables, with a line below the first one.
 use Rattle.std.proofs.Common.{◌≡◌, ◌<◌, ◌+◌, ◌==◌, true, false, List, [], ◌∷◌, ◌++◌, Option, Some, None, arith, drop, length, take, lit<, refl, sym, ap, ap₂, ◌∙◌, subst, append-nil, append_assoc}
 use Rattle.std.specs.List.{All, after_first, before_first, list_any, position_or_len}
 use Rattle.std.specs.Option.{MatchOption}
@@ -42,7 +42,7 @@ first_line line rest none =
     let text = line ++ 0x0A ∷ rest in
     record { place = place; before = ap (λ n. take n text) place ∙ take-append_seam line (0x0A ∷ rest); after = ap (λ n. drop (n + 1) text) place ∙ drop-append-add line (0x0A ∷ rest) 1 }
 
--- the text of lines with another one below the first, by what stands at the two sides of the first line feed
+-- the text of lines with another line below the first, given the texts before and after the first line feed
 pub with_line_below : (line : Text) (lines : List Text) (drawing : Text) (r : Option (Bor Text × Bor Text)) → drawing ≡ terminated_text_of lines → All HasNoBreak lines → IsSplitOnceResult 0x0A drawing r
     → MatchOption r (terminated_text_of (below_first line lines) ≡ []) (λ x. x.0.now ++ 0x0A ∷ (line ++ 0x0A ∷ x.1.now) ≡ terminated_text_of (below_first line lines))
 with_line_below line lines drawing r is none split = by_lines lines is none r (split_once_first 0x0A drawing r split (lit< tt))
@@ -71,7 +71,7 @@ with_line_below line lines drawing r is none split = by_lines lines is none r (s
 pub markdown_unbroken : (look : Look) (content : SelectedValue) → HasUnbrokenStyle (markdown_table look content)
 markdown_unbroken look content = let known = any_built false false (markdown_look look) (markdown_content content) in subst HasUnbrokenStyle (sym known.is) (record { indicator = refl; characters = refl })
 
--- a table without lines between rows is the lines of its header and those of its rows
+-- without lines between rows, a table has the lines of its header and those of its rows
 header_and_rows : (table : TableValue) (infos : List ColumnInfo) → optional_frame_line table.style table.style.row_separator (outer_widths infos) ≡ []
     → part_of_drawing table infos true false [] ++ part_of_drawing table infos false true table.rows ≡ drawing_of_infos table infos
 header_and_rows table infos none = grind (arith, append_assoc, append-nil, same table.rows)
@@ -86,14 +86,14 @@ header_and_rows table infos none = grind (arith, append_assoc, append-nil, same 
     same [] = refl
     same (x ∷ xs) = ap (λ (s : List Text). (s ++ lines x) ++ flat_map (λ (row : RowValue). between ++ lines row) xs) none
 
--- so is one for Markdown
+-- the same for a table for Markdown
 pub markdown_parts : (look : Look) (content : SelectedValue) (arranged : ArrangedValue) → arranged.table ≡ markdown_table look content
     → part_of_drawing arranged.table arranged.infos true false [] ++ part_of_drawing arranged.table arranged.infos false true arranged.table.rows ≡ drawing_of_infos arranged.table arranged.infos
 markdown_parts look content arranged own =
     let style : arranged.table.style ≡ markdown_style = ap (λ (t : TableValue). t.style) (own ∙ (any_built false false (markdown_look look) (markdown_content content)).is) in
     header_and_rows arranged.table arranged.infos (ap (λ (s : TableStyle). optional_frame_line s s.row_separator (outer_widths arranged.infos)) style)
 
--- what holds of each line of it holds of those of its header
+-- a property of each line of a table is one of each line of its header
 pub header_each : (P : Text → Type 0) (look : Look) (content : SelectedValue) (arranged : ArrangedValue) → IsArrangedTable (markdown_table look content) arranged
     → All P (drawing_of_infos (markdown_table look content) arranged.infos) → All P (part_of_drawing arranged.table arranged.infos true false [])
 header_each P look content arranged is each =
@@ -104,7 +104,7 @@ header_each P look content arranged is each =
     front [] ys all = All-nil P
     front (x ∷ xs) ys all = All-cons P x xs (All-head P x (xs ++ ys) all) (front xs ys (All-tail P x (xs ++ ys) all))
 
--- what holds of each line of it, and of another one where it has lines, holds of its lines with that one
+-- a property of each line of a table, and of the rule if there is a header, is one of all lines with the rule
 pub each_markdown_line : (P : Text → Type 0) (look : Look) (content : SelectedValue) (arranged : ArrangedValue) (rule : Text) → IsArrangedTable (markdown_table look content) arranged
     → All P (drawing_of_infos (markdown_table look content) arranged.infos) → (0 < length (drawing_of_infos (markdown_table look content) arranged.infos) → P rule) → All P (markdown_lines rule arranged)
 each_markdown_line P look content arranged rule is each own =

@@ -15,7 +15,7 @@ use Rattle.csv_tables.specs.LazyRows.{AreNamed, name_cell, names_width, pair_in}
 use Rattle.csv_tables.specs.declared.options.ColumnPlan.{ColumnPlan}
 use Rattle.csv_tables.specs.declared.rows.RecordRows.{RecordRows}
 
--- the longest record
+-- the number of fields of the longest record
 abbrev pub most_fields : List (List Text) → ℕ
 most_fields records = greatest (map length records)
 
@@ -24,7 +24,7 @@ module _ (t : TableValue) (rows : RecordRows) where
   abbrev pub name_width : ColumnPlan → ℕ
   name_width column = cell_content_width (measured_cell t (name_cell rows column))
 
-  -- the widest name of those columns of some that a record of `n` fields has
+  -- the width of the widest name among the columns that a record of `n` fields has
   abbrev widest : ℕ → List ColumnPlan → ℕ
   widest n columns = greatest (map name_width (filter (λ (column : ColumnPlan). nat_lt column.position n) columns))
 
@@ -38,7 +38,7 @@ module _ (t : TableValue) (rows : RecordRows) where
   first_cells fields [] = refl
   first_cells fields (column ∷ columns) = ap (max (name_width column)) (first_cells fields columns)
 
-  -- its names
+  -- the greatest width in the column of names
   pub of_names : (fields : List Text) → greatest_at t cell_content_width (pairs_by rows fields) 0 ≡ names_width t rows (length fields)
   of_names fields = first_cells fields (held fields rows.selected.columns)
 
@@ -63,7 +63,7 @@ module _ (t : TableValue) (rows : RecordRows) where
 
   -- ---- all records
 
-  -- the columns that a longer record has
+  -- a longer record has more columns
   longer : (a b : ℕ) (columns : List ColumnPlan) → widest (max a b) columns ≡ max (widest a columns) (widest b columns)
   longer a b [] = refl
   longer a b (column ∷ columns) = by_tests (nat_lt column.position a) (nat_lt column.position b) refl refl (longer a b columns)
@@ -107,7 +107,7 @@ module _ (t : TableValue) (rows : RecordRows) where
       ap (λ (test : Bool). greatest (map name_width (cond test (column ∷ filter (λ (c : ColumnPlan). nat_lt c.position 0) columns) (filter (λ (c : ColumnPlan). nat_lt c.position 0) columns)))) not_first
       ∙ none_first columns
 
-  -- the widest name of all is that of the longest record
+  -- the widest name of all records is that of the longest record
   pub all_names : (records : List (List Text)) → greatest_at t cell_content_width (flat_map (pairs_by rows) records) 0 ≡ names_width t rows (most_fields records)
   all_names [] = sym (none_first rows.selected.columns)
   all_names (fields ∷ records) =
@@ -149,7 +149,7 @@ module _ (t : TableValue) (rows : RecordRows) where
 
 -- ---- cells of names, each before a field
 
--- two cells beside each other
+-- two neighbouring cells
 pub two_at : {X : Type 0} (xs : List X) (n : ℕ) (x y : X) → slice_get xs n ≡ Some x → slice_get xs (n + 1) ≡ Some y → take 2 (drop n xs) ≡ x ∷ y ∷ []
 two_at [] n x y first second = absurd (cc first)
 two_at (z ∷ []) zero x y first second = absurd (cc second)
@@ -211,7 +211,7 @@ named_more rows cells place column field are size is =
           grind (arith, earlier, here, own_name, is, at, size, are.count, below);
     }
 
--- a field after the name of its column
+-- the cell of a field, after that of its column's name
 module _ (rows : RecordRows) (cells : List CellValue) (place : ℕ) (field : CellValue) (are : AreNamed rows cells) (within : 2 * place + 1 < length cells) where
   abbrev pub put : List CellValue
   put = slice_set cells (2 * place + 1) field

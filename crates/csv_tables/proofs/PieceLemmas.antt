@@ -25,7 +25,7 @@ module _ (table : TableValue) (infos : List ColumnInfo) where
   bottom : Bool → List Text
   bottom is_last = if is_last then optional_frame_line table.style table.style.bottom_border (outer_widths infos) else []
 
-  -- rows below others
+  -- rows below other rows
   further_on : (is_last : Bool) (xs ys : List RowValue) → part_of_drawing table infos false is_last (xs ++ ys) ≡ part_of_drawing table infos false false xs ++ part_of_drawing table infos false is_last ys
   unfolding further bottom
   further_on is_last xs ys =
@@ -48,11 +48,11 @@ module _ (table : TableValue) (infos : List ColumnInfo) where
       ∙ sym (append_assoc one (part_of_drawing table infos false false xs) more)
       ∙ ap (λ (l : List Text). l ++ more) (sym (first_row is_first false x xs))
 
-  -- their text
+  -- the text of rows
   abbrev lines : Bool → Bool → List RowValue → Text
   lines is_first is_last rows = terminated_text_of (part_of_drawing table infos is_first is_last rows)
 
-  -- the rows that are drawn so far, without the bottom border
+  -- the text of the rows that are drawn so far, without the bottom border
   pub begun : List RowValue → Text
   begun [] = []
   begun (x ∷ xs) = terminated_text_of (part_of_drawing table infos true false (x ∷ xs))
@@ -70,7 +70,7 @@ module _ (table : TableValue) (infos : List ColumnInfo) where
       ∙ flat_map-append _ (part_of_drawing table infos true false (y ∷ ys)) (part_of_drawing table infos false false (x ∷ []))
       ∙ ap (λ b. lines true false (y ∷ ys) ++ lines b false (x ∷ [])) (sym later)
 
-  -- and with it
+  -- the text with the bottom border
   pub begun_all : (xs : List RowValue) → begun xs ++ (if length xs == 0 then [] else terminated_text_of (part_of_drawing table infos false true [])) ≡ fields_text table infos xs
   unfolding begun
   begun_all [] = refl
@@ -82,7 +82,7 @@ module _ (table : TableValue) (infos : List ColumnInfo) where
       ∙ ap terminated_text_of (rows_on true true y ys [])
       ∙ flat_map-append _ (part_of_drawing table infos true false (y ∷ ys)) (part_of_drawing table infos false true []))
 
--- a table draws parts as with other rows
+-- a table with other rows draws the same parts
 module _ (own table : TableValue) (infos : List ColumnInfo) (is : with_other_rows table.rows own ≡ table) where
   pub part_as : (is_first is_last : Bool) (rows : List RowValue) → part_of_drawing own infos is_first is_last rows ≡ part_of_drawing table infos is_first is_last rows
   part_as is_first is_last rows = sym (part_same own table.rows infos is_first is_last rows) ∙ ap (λ (t : TableValue). part_of_drawing t infos is_first is_last rows) is
@@ -96,7 +96,7 @@ module _ (own table : TableValue) (infos : List ColumnInfo) (is : with_other_row
 
 -- ---- records
 
--- the row of the next record, and those of the others
+-- the row of the next record, and the rows of the others
 pub row_more : (rows : RecordRows) (table : TableValue) (infos : List ColumnInfo) (at : ℕ) (is_first is_last : Bool) (x : List Text) (xs : List (List Text)) → rows.is_expanded ≡ false
     → terminated_text_of (part_of_drawing table infos is_first false (made_by rows at x ∷ [])) ++ terminated_text_of (part_of_drawing table infos false is_last (rows_from rows (at + 1) xs))
     ≡ terminated_text_of (part_of_drawing table infos is_first is_last (rows_from rows at (x ∷ xs)))
@@ -123,7 +123,7 @@ expanded_on rows table infos at (x ∷ xs) ys =
     ap (λ (t : Text). one ++ t) (expanded_on rows table infos (at + 1) xs ys ∙ ap (λ n. expanded_from rows table infos (at + 1) xs ++ expanded_from rows table infos n ys) same)
     ∙ sym (append_assoc one (expanded_from rows table infos (at + 1) xs) (expanded_from rows table infos (at + suc (length xs)) ys))
 
--- some records, and then the others
+-- the next records, and then the others
 drawn_on : (rows : RecordRows) (table : TableValue) (infos : List ColumnInfo) (at : ℕ) (is_first : Bool) (xs ys : List (List Text)) → 0 < length xs
     → drawn_next rows table infos at is_first true (xs ++ ys) ≡ drawn_next rows table infos at is_first false xs ++ drawn_next rows table infos (at + length xs) false true ys
 drawn_on rows table infos at is_first [] ys some = absurd (omega (arith, some))
@@ -151,7 +151,7 @@ drawn_on rows table infos at is_first (x ∷ xs) ys some = by_kind rows.is_expan
 
 -- ---- pieces
 
--- what is left behind the first so many
+-- a list without its first n and then m elements
 drop-more : (n m : ℕ) (xs : List (List Text)) → drop m (drop n xs) ≡ drop (n + m) xs
 drop-more zero m xs = let same : m ≡ 0 + m = omega arith in ap (λ k. drop k xs) same
 drop-more (suc n) m [] = drop-none m ∙ sym (drop-none (suc n + m))
@@ -161,19 +161,19 @@ drop-more (suc n) m [] = drop-none m ∙ sym (drop-none (suc n + m))
     drop-none (suc k) = refl
 drop-more (suc n) m (x ∷ xs) = let same : suc (n + m) ≡ suc n + m = omega arith in drop-more n m xs ∙ ap (λ k. drop k (x ∷ xs)) same
 
--- they are as many as that, and fewer than all
+-- the first n elements are n, and fewer than all
 pub many_taken : (n : ℕ) (xs : List (List Text)) → length (take n xs) ≢ length xs → (length (take n xs) ≡ n) × (n < length xs)
 many_taken n xs other =
     ⊎_elim (λ inside. (length-take-le n xs (omega (arith, inside)), inside))
     (λ outside. absurd (other (ap length (take_all n xs outside)))) (cases_lt n (length xs))
 
--- or they are all
+-- the first n elements are all
 pub all_taken : (n : ℕ) (xs : List (List Text)) → length (take n xs) ≡ length xs → take n xs ≡ xs
 all_taken n xs same =
     ⊎_elim (λ inside. let few = length-take-le n xs (omega (arith, inside)) in absurd (omega (arith, inside, few, same)))
     (λ outside. take_all n xs outside) (cases_lt n (length xs))
 
--- the next so many of what is left, where these aren't all
+-- the text of the next records, if others are left
 pub next_piece : (rows : RecordRows) (table : TableValue) (infos : List ColumnInfo) (at most : ℕ) (is_first : Bool) (all : List (List Text)) → 0 < most → length (take most (drop at all)) ≢ length (drop at all)
     → drawn_next rows table infos at is_first true (drop at all)
     ≡ drawn_next rows table infos at is_first false (take most (drop at all)) ++ drawn_next rows table infos (at + length (take most (drop at all))) false true (drop (at + length (take most (drop at all))) all)

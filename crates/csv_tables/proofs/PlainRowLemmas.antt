@@ -29,7 +29,7 @@ use Rattle.csv_tables.specs.declared.rows.RecordRows.{RecordRows}
 
 -- ---- texts that are what their cells have
 
--- a text of which no character is replaced is what its cell has, if it is kept
+-- a text without replaced characters is the text of its cell, if it is kept
 stays_if : (look : Look) (field : Text) (n : ℕ) → IsKept look field n → IsUtf8 (field ++ spaces n) → list_any is_replaced (chars (field ++ spaces n)) ≡ false → field_text look (field ++ spaces n) ≡ field ++ spaces n
 stays_if look field n kept utf8 clean = by_kind kept
   where
@@ -62,18 +62,18 @@ clean_stays look field kept utf8 clean =
 
 -- ---- texts of several lines that are what their cells have
 
--- a text without harmful characters is what its cell has, if it isn't blank
+-- a text without harmful characters is the text of its cell, if it isn't blank
 pub harmless_stays : (look : Look) (field : Text) → look.is_markdown ≡ false → is_blank field ≡ false → IsUtf8 field → list_any is_harmful (chars field) ≡ false → field_text look field ≡ field
 harmless_stays look field unmarked filled utf8 harmless =
     ap (λ (b : Bool). if b then marked (cleaned false field) else unless_blank (cleaned look.has_sequences field)) unmarked
     ∙ ap unless_blank (sym (harmless_so look.has_sequences field utf8 harmless))
     ∙ ap (λ (b : Bool). if b then [] else field) filled
 
--- a character of a line is replaced
+-- a line has a replaced character
 abbrev pub is_replaced_in : Text → Bool
 is_replaced_in line = list_any is_replaced (chars line)
 
--- what is before and after a line feed are whole characters
+-- the texts before and after a line feed are UTF-8
 around_feed : (front back : Text) → IsUtf8 (front ++ 0x0A ∷ back) → IsUtf8 front × IsUtf8 back
 around_feed front back utf8 =
     let text = front ++ 0x0A ∷ back in
@@ -101,7 +101,7 @@ joined_harmless (line ∷ (next ∷ lines)) utf8 none =
     ∙ list_any-append is_harmful (chars line) (0x0A ∷ chars rest)
     ∙ ap₂ (λ a b. a || b) (none_harmful (chars line) each.0) others
 
--- a text has no harmful character if none is replaced in its lines
+-- a text has no harmful character if its lines have no replaced one
 pub harmless_lines : (text : Text) → IsUtf8 text → list_any is_replaced_in (slice_split (λ b. b == 0x0A) text) ≡ false → list_any is_harmful (chars text) ≡ false
 harmless_lines text utf8 none =
     let same = join_with_byte-slice_split 0x0A text in
@@ -113,14 +113,14 @@ harmless_lines text utf8 none =
 abbrev pub cell_of_column : RecordRows → List Text → ColumnPlan → CellValue
 cell_of_column rows fields column = cell_for rows.look column.alignment (text_in rows.look rows.is_aligned column fields)
 
--- the cell of a column, behind that of the number
+-- the cell of a column, after the cell of the number
 pub cell_behind : (rows : RecordRows) (fields : List Text) (column : ColumnPlan) (at position place : ℕ) → position ≡ place + (if rows.selected.is_numbered then 1 else 0)
     → slice_get (columns_within fields rows.selected.columns) place ≡ Some column → slice_get (plain_by rows at fields).cells position ≡ Some (cell_of_column rows fields column)
 cell_behind rows fields column at position place stands found =
     slice_get-map (λ (s : Shown). cell_for rows.look s.alignment s.text) (shown_by rows at fields) position
     ∙ ap (option_map (λ (s : Shown). cell_for rows.look s.alignment s.text)) (shown_behind rows fields column at position place stands found)
 
--- whether rows are numbered, by the number of one of them
+-- rows are numbered if one of them has a number
 pub some_number : (is_numbered : Bool) (n number : ℕ) → Some (decimal number) ≡ number_of is_numbered n → is_numbered ≡ true
 some_number true n number is = refl
 some_number false n number is = absurd (cc is)
@@ -129,13 +129,13 @@ pub no_number : (is_numbered : Bool) (n : ℕ) → None ≡ number_of is_numbere
 no_number true n is = absurd (cc is)
 no_number false n is = refl
 
--- the cell of a number, at the beginning of its row
+-- the cell of a number, at the start of its row
 pub cell_of_number : (rows : RecordRows) (fields : List Text) (at number : ℕ) → Some (decimal number) ≡ number_of rows.selected.is_numbered (at + 1)
     → slice_get (plain_by rows at fields).cells 0 ≡ Some (cell_for rows.look (Some Right) (decimal number))
 cell_of_number rows fields at number is =
     ap (λ (text : Option Text). slice_get (shown_cells rows.look false (shown_number text ++ shown_fields rows.look rows.is_aligned (columns_within fields rows.selected.columns) fields)) 0) (sym is)
 
--- an element inside a list is the one at its position
+-- an element of a list is the one at its position
 pub inside : {X : Type 0} (xs : List X) (i : ℕ) (d : X) → i < length xs → slice_get xs i ≡ Some (slice_index_or xs i d)
 inside [] i d within = absurd (omega (arith, within))
 inside (x ∷ xs) zero d within = refl

@@ -1,4 +1,4 @@
--- The columns that records reach.
+-- The columns that records reach: those up to the last one whose field a record has.
 use Rattle.std.proofs.Common.{◌≡◌, ◌<◌, ◌≤◌, ◌-◌, ℕ, Bool, true, false, ◌||◌, zero, suc, ◌^◌, List, [], ◌∷◌, ◌++◌, ◌⊎◌, inl, inr, Option, Some, None, drop, length, map, min, nat_lt, take, arith, refl, sym, ap, ◌∙◌}
 use Rattle.std.specs.List.{list_any, slice_get, slice_index_or}
 use Rattle.std.specs.Prelude.{if◌then◌else◌, option_map}
@@ -14,11 +14,11 @@ use Rattle.csv_tables.specs.declared.options.Look.{Look}
 use Rattle.csv_tables.specs.Leasts.{least_position, least_positions}
 use Rattle.csv_tables.specs.declared.options.ColumnPlan.{ColumnPlan}
 
--- a column where none is
+-- a placeholder for a missing column
 abbrev pub no_column : ColumnPlan
 no_column = record { position = 0; alignment = None; points = None; is_nowrap = false }
 
--- what holds of columns holds of those that are reached
+-- a property of all columns is one of those that are reached
 pub All-reached : (P : ColumnPlan → Type 0) (fields : List Text) (columns : List ColumnPlan) → All P columns → All P (columns_within fields columns)
 All-reached P fields [] each = each
 All-reached P fields (column ∷ columns) each = by_any (list_any (has_field fields) (column ∷ columns)) refl (All-reached P fields columns (All-tail P column columns each))
@@ -28,14 +28,14 @@ All-reached P fields (column ∷ columns) each = by_any (list_any (has_field fie
     by_any false is rest = rw is (All-nil P)
 
 module _ (fields : List Text) where
-  -- none of the columns is held
+  -- the record has the field of no column
   none-held : (columns : List ColumnPlan) → list_any (has_field fields) columns ≡ false → held fields columns ≡ []
   none-held [] none = refl
   none-held (column ∷ columns) none =
       let parts = or_parts (has_field fields column) (list_any (has_field fields) columns) none in
       rw parts.0 (none-held columns parts.1)
 
-  -- behind those that are reached none is held
+  -- the record has no field of the columns after those that it reaches
   pub held-reached : (columns : List ColumnPlan) → held fields (columns_within fields columns) ≡ held fields columns
   held-reached [] = refl
   held-reached (column ∷ columns) = by_any (list_any (has_field fields) (column ∷ columns)) refl (held-reached columns)
@@ -44,7 +44,7 @@ module _ (fields : List Text) where
       by_any true is rest = rw is (ap (λ rest. if has_field fields column then column ∷ rest else rest) rest)
       by_any false is rest = rw is (sym (none-held (column ∷ columns) is))
 
-  -- no more than all
+  -- at most all columns are reached
   pub reached-length : (columns : List ColumnPlan) → length (columns_within fields columns) ≤ length columns
   reached-length [] = omega arith
   reached-length (column ∷ columns) = by_any (list_any (has_field fields) (column ∷ columns)) refl (reached-length columns)
@@ -53,7 +53,7 @@ module _ (fields : List Text) where
       by_any true is rest = rw is (omega (arith, rest))
       by_any false is rest = rw is (omega arith)
 
-  -- a column is held where the least position says so
+  -- the least position shows whether the record has the field of a column
   module _ (short : length fields < 2 ^ 64) where
     pub held-by_least : (columns : List ColumnPlan) → list_any (has_field fields) columns ≡ nat_lt (least_position columns) (length fields)
     held-by_least [] = grind (arith, short)
@@ -62,7 +62,7 @@ module _ (fields : List Text) where
         either : (a b n : ℕ) → (nat_lt a n || nat_lt b n) ≡ nat_lt (min a b) n
         either a b n = grind arith
 
--- the least position from a column on
+-- the least position of the columns from place k on
 pub least-at : (columns : List ColumnPlan) (k : ℕ) → k < length columns → slice_index_or (least_positions columns) k 0 ≡ least_position (drop k columns)
 least-at [] k below = absurd (omega arith)
 least-at (column ∷ columns) zero below = refl
@@ -73,12 +73,12 @@ leasts-length [] = refl
 leasts-length (column ∷ columns) = ap suc (leasts-length columns)
 
 module _ (fields : List Text) where
-  -- where none is held, none is reached
+  -- without a field, no column is reached
   pub none-reached : (columns : List ColumnPlan) → list_any (has_field fields) columns ≡ false → columns_within fields columns ≡ []
   none-reached [] none = refl
   none-reached (column ∷ columns) none = rw none refl
 
-  -- where one is held from a column on, that column is reached
+  -- if the record has the field of a column from place k on, it reaches the column at place k
   pub reached-more : (columns : List ColumnPlan) (k : ℕ) → k < length columns → list_any (has_field fields) (drop k columns) ≡ true
       → take k columns ++ columns_within fields (drop k columns) ≡ take (suc k) columns ++ columns_within fields (drop (suc k) columns)
   reached-more [] k below some = absurd (omega arith)
@@ -97,7 +97,7 @@ unmapped_at f [] k none = refl
 unmapped_at f (y ∷ ys) zero none = absurd (cc none)
 unmapped_at f (y ∷ ys) (suc k) none = unmapped_at f ys k none
 
--- a field that isn't there is blank
+-- a missing field is blank
 pub no_field : (fields : List Text) (position : ℕ) → nat_lt position (length fields) ≡ false → field_or_blank fields position ≡ []
 unfolding field_at
 no_field [] position none = refl
@@ -119,7 +119,7 @@ reached-at fields (column ∷ columns) zero d found = by_any (list_any (has_fiel
         rw is (inr (refl, no_field fields d.position (ap (has_field fields) (sym same) ∙ parts.0)))
 reached-at fields (column ∷ columns) (suc k) d found = by_any (list_any (has_field fields) (column ∷ columns)) refl (reached-at fields columns k d found) (behind columns k found)
   where
-    -- columns behind those that are reached have no field
+    -- the columns after those that are reached have no field
     behind : (columns : List ColumnPlan) (k : ℕ) → slice_get columns k ≡ Some d → list_any (has_field fields) columns ≡ false → has_field fields d ≡ false
     behind [] k found none = absurd (cc found)
     behind (column ∷ columns) zero found none =
@@ -137,15 +137,15 @@ reached-at fields (column ∷ columns) (suc k) d found = by_any (list_any (has_f
         let parts = or_parts (has_field fields column) (list_any (has_field fields) columns) is in
         rw is (inr (refl, no_field fields d.position (none parts.1)))
 
--- what a column shows of a record
+-- the text that a column shows of a record, and its alignment
 abbrev show : Look → Bool → List Text → ColumnPlan → Shown
 show look is_aligned fields column = record { alignment = column.alignment; text = text_in look is_aligned column fields }
 
--- a text at a place of some, or a blank one past their end
+-- a text at a place of a list, or a blank one after its end
 abbrev pub IsAt : List Shown → ℕ → Shown → Type 0
 IsAt shown k d = (slice_get shown k ≡ Some d) ⊎ ((slice_get shown k ≡ None) × (d.text ≡ []))
 
--- a text that a row shows has a cell, or it is blank
+-- a text that a row shows has a cell, or is blank
 pub shown-at : (look : Look) (is_aligned is_numbered : Bool) (columns : List ColumnPlan) (row : ℕ × List Text) (k : ℕ) (d : Shown) → slice_get (shown_in look is_aligned is_numbered columns row) k ≡ Some d
     → IsAt (shown_in look is_aligned is_numbered (columns_within row.1 columns) row) k d
 shown-at look is_aligned true columns row zero d found = inl found
@@ -164,7 +164,7 @@ shown-at look is_aligned false columns row k d found = by_column (slice_get colu
         let same : show look is_aligned row.1 column ≡ d = cc both in
         by_reached column same (reached-at row.1 columns k column some)
 
--- a record that has the field of the last column reaches all
+-- a record that has the field of the last column reaches all columns
 any_at : (fields : List Text) (columns : List ColumnPlan) (i : ℕ) (column : ColumnPlan) → slice_get columns i ≡ Some column → has_field fields column ≡ true → list_any (has_field fields) columns ≡ true
 any_at fields [] i column is own = absurd (cc is)
 any_at fields (first ∷ columns) zero column is own =
@@ -185,7 +185,7 @@ last-reached fields (column ∷ (other ∷ columns)) last is own =
     rw (any_at fields (column ∷ other ∷ columns) (length (column ∷ other ∷ columns) - 1) last is own)
     (ap (λ (more : List ColumnPlan). column ∷ more) (last-reached fields (other ∷ columns) last rest own))
 
--- a column that is reached is at its place among all
+-- a column that is reached has the same place among all columns
 pub own_place : (fields : List Text) (columns : List ColumnPlan) (k : ℕ) (own : ColumnPlan) → slice_get (columns_within fields columns) k ≡ Some own → slice_get columns k ≡ Some own
 own_place fields [] k own is = absurd (cc is)
 own_place fields (column ∷ columns) zero own is = by_any (list_any (has_field fields) (column ∷ columns)) is

@@ -1,4 +1,4 @@
--- The text of records that are drawn one after another is that of their table.
+-- The text of records that are drawn one after another is the text of their table.
 use Rattle.std.proofs.Common.{◌≡◌, ℕ, zero, suc, ◌+◌, Bool, true, false, List, [], ◌∷◌, ◌++◌, drop, length, take, arith, refl, ap, ap₂, sym, subst, ◌∙◌}
 use Rattle.std.proofs.Math.Seq.{drop-append-add}
 use Rattle.std.proofs.lemmas.List.{length-map, take-append-le, take_all}
@@ -27,11 +27,11 @@ use Rattle.csv_tables.specs.declared.options.Look.{Look}
 use Rattle.csv_tables.specs.declared.rows.RecordRows.{RecordRows}
 
 module _ (rows : RecordRows) where
-  -- a record has as many rows as fields are drawn of it
+  -- an expanded record has a row for each drawn field
   as_many : (fields : List Text) → length (pairs_by rows fields) ≡ drawn_fields rows.selected fields
   as_many fields = length-map (held fields rows.selected.columns) (λ (column : ColumnPlan). pair_for rows.look (name_at (unwrap_or rows.selected.names []) column.position) (field_or_blank fields column.position))
 
-  -- the rows behind those of the first records
+  -- the rows after those of the first records
   rows_behind : (at : ℕ) (records : List (List Text)) → drop (sum_by (drawn_fields rows.selected) (take at records)) (flat_map (pairs_by rows) records) ≡ flat_map (pairs_by rows) (drop at records)
   rows_behind zero records = refl
   rows_behind (suc at) [] = refl
@@ -43,7 +43,7 @@ module _ (rows : RecordRows) where
       ap (λ n. drop n (first ++ rest)) count ∙ drop-append-add first rest s ∙ rows_behind at xs
 
   module _ (arranged : ArrangedValue) (own : arranged.table.rows ≡ flat_map (pairs_by rows) rows.selected.rows) where
-    -- the part of the table that the fields of a record are
+    -- the part of the table with the fields of a record
     part_is : (at : ℕ) (fields : List Text) (left : List (List Text)) → fields ∷ left ≡ drop at rows.selected.rows → (count : ℕ) (made : List RowValue) → pairs_by rows fields ≡ made → length made ≡ count
         → fields_text arranged.table arranged.infos made ≡ terminated_text_of (some_lines arranged (sum_by (drawn_fields rows.selected) (take at rows.selected.rows)) count)
     part_is at fields left is zero [] made long = refl
@@ -74,7 +74,7 @@ module _ (rows : RecordRows) where
         (part ∙ ap (λ n. terminated_text_of (some_lines arranged (sum_by (drawn_fields rows.selected) (take at rows.selected.rows)) n)) count))
         (records_are (at + 1) left (place.2 ∙ ap (λ n. drop n rows.selected.rows) one))
 
--- the text of all
+-- the text of all records
 pub text_is : (contents : LazyTableValue) (arranged : ArrangedValue) → arranged.table ≡ contents.table → contents.table.rows ≡ rows_from contents.rows 0 contents.rows.selected.rows
     → drawn_next contents.rows contents.table arranged.infos 0 true true contents.rows.selected.rows ≡ table_text contents.rows.is_expanded contents.rows.selected arranged
 text_is contents arranged same own = by_kind contents.rows.is_expanded refl

@@ -10,7 +10,7 @@ pub with_rows-rows : (rows : List RowValue) (t : TableValue) → (with_rows rows
 with_rows-rows [] t = sym (append-nil t.rows)
 with_rows-rows (row ∷ rows) t = with_rows-rows rows (with_row row t) ∙ append_assoc t.rows (row ∷ []) rows
 
--- the columns that are drawn stand at the chosen positions
+-- the columns that are drawn have the chosen positions
 pub positions-shown : (columns : ColumnsValue) (rows : List (List Text)) → map (λ (column : ColumnPlan). column.position) (drawn_columns columns rows) ≡ columns.drawn
 positions-shown columns rows = all columns.drawn
   where

@@ -1,4 +1,5 @@
--- Texts that add as many terminal columns as they have: the indicator of cut rows, and characters of one column.
+-- Texts that add their own width to any text before them: the truncation indicator, and characters of one terminal
+-- column.
 use Rattle.std.proofs.Common.{◌≡◌, ◌≤◌, ◌<◌, ◌==◌, ◌&&◌, ℕ, true, false, List, [], ◌∷◌, arith, chars, nat_le, refl, sym, ap, ap₂, ◌∙◌, subst, tests}
 use Rattle.std.specs.Int.{is_in_range}
 use Rattle.std.specs.List.{list_all}
@@ -15,14 +16,14 @@ use Rattle.comfy_table.specs.TableValue.{ellipsis}
 
 -- ---- the indicator
 
--- no text joins it
+-- no text before the indicator joins it
 pub ellipsis_is_apart : IsApart ellipsis
 unfolding encode
 ellipsis_is_apart = frame_apart 0x2026 [] refl
 
 -- ---- characters
 
--- those that fit a column fit a wider one
+-- characters that fit a column fit a wider one
 pub wider_column : (n w : ℕ) → n ≤ w → (text : Text) → CharactersFit n text → CharactersFit w text
 wider_column n w room text fit =
     let both = and_parts (list_all (character_fits n) (chars text)) (selectors_agree (chars text)) fit in
@@ -37,7 +38,7 @@ wider_column n w room text fit =
         let both = and_parts (character_fits n c) (list_all (character_fits n) cs) all in
         ap₂ (λ a b. a && b) (more_room (measure (encode_utf8 c)) both.0) (each cs both.1)
 
--- printable ASCII has characters of one column
+-- the characters of printable ASCII take one terminal column
 pub printable_fits : (text : Text) → is_printable_ascii text ≡ true → CharactersFit 1 text
 printable_fits text printable =
     let same = chars-IsAscii text (ascii-printable text printable) in
@@ -69,6 +70,6 @@ printable_fits text printable =
         let both = and_parts (is_in_range 0x20 0x7E c) (is_printable_ascii cs) all in
         rw (no_clash c cs both.0) (agree cs both.1)
 
--- so no selectors clash in it
+-- variation selectors agree in such a text
 pub fitting_agree : (n : ℕ) (text : Text) → CharactersFit n text → SelectorsAgree text
 fitting_agree n text fit = (and_parts (list_all (character_fits n) (chars text)) (selectors_agree (chars text)) fit).1

@@ -1,4 +1,4 @@
--- Tables with the lines between their rows, and without them.
+-- Tables with lines between their rows, and without them.
 use Rattle.std.proofs.Common.{◌≡◌, ℕ, Bool, true, false, List, [], ◌∷◌, Option, Some, None, flat_map, map, drop, take, refl, sym, ap, ◌∙◌}
 use Rattle.std.specs.List.{All}
 use Rattle.std.proofs.lemmas.List.Elements.{All-append, All-cons, All-drop, All-take}
@@ -13,14 +13,14 @@ use Rattle.csv_tables.specs.declared.options.Look.{Look}
 use Rattle.csv_tables.proofs.BuiltLemmas.{plain_table}
 use Rattle.csv_tables.specs.Drawn.{SelectedValue, condensed_style, empty_table, headed_table, pairs_in, separated_table}
 
--- a look with these lines, or without them
+-- a look with lines between rows, or without them
 abbrev pub separated : Bool → Look → Look
 separated true look = look
 separated false look = record look { style = condensed_style look.style }
 
 -- ---- styles
 
--- a style without lines between rows has the other characters of the style alone
+-- a style without lines between rows has only the other characters of the style
 pub condensed-all : (P : Option ℕ → Type 0) → P None → (style : TableStyle) → All P (style_characters style) → All P (style_characters (condensed_style style))
 condensed-all P none style all =
     let cs = style_characters style in
@@ -47,7 +47,7 @@ module _ (look : Look) (content : SelectedValue) where
   condensed-headed None = refl
   condensed-headed (Some names) = refl
 
-  -- the table of some records, with the lines or without them, is that of the look for it
+  -- the table of records with these lines or without them is the one of the look with or without them
   pub restyled : (is_expanded is_aligned has : Bool) → plain_table is_expanded is_aligned (separated has look) content ≡ separated_table has (plain_table is_expanded is_aligned look content)
   restyled is_expanded is_aligned true = refl
   restyled true is_aligned false = sym (condensed-rows (flat_map (pairs_in look content) content.rows) (empty_table look))

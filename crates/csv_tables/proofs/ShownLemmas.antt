@@ -14,7 +14,7 @@ use Rattle.csv_tables.specs.Contents.{plain_by, measured_at, shown_by}
 use Rattle.csv_tables.specs.declared.options.ColumnPlan.{ColumnPlan}
 use Rattle.csv_tables.specs.declared.rows.RecordRows.{RecordRows}
 
--- ---- spaces behind a field
+-- ---- spaces after a field
 
 pub spaces_printable : (n : ℕ) → is_printable_ascii (spaces n) ≡ true
 spaces_printable zero = refl
@@ -22,7 +22,7 @@ spaces_printable (suc n) = spaces_printable n
 
 -- ---- what a row shows
 
--- behind its number stand its fields
+-- the fields of a row come after its number
 pub shown_behind : (rows : RecordRows) (fields : List Text) (column : ColumnPlan) (at position place : ℕ) → position ≡ place + (if rows.selected.is_numbered then 1 else 0)
     → slice_get (columns_within fields rows.selected.columns) place ≡ Some column
     → slice_get (shown_by rows at fields) position ≡ Some (record { alignment = column.alignment; text = text_in rows.look rows.is_aligned column fields })
@@ -63,7 +63,7 @@ as_many_cells rows at fields =
     by_number true = let own = many in omega (arith, own)
     by_number false = let own = many in omega (arith, own)
 
--- what a width becomes with one cell more
+-- a width after one more cell
 pub one_wider : (had : ℕ) (f : ℕ → ℕ) (i k : ℕ) → max (max had (if nat_lt i k then f i else 0)) (if i == k then f k else 0) ≡ max had (if nat_lt i (k + 1) then f i else 0)
 one_wider had f i k = ⊎_elim (λ before. grind (arith, nat_tests, before)) (λ behind. by_test (i == k) refl behind) (cases_lt i k)
   where
@@ -84,7 +84,7 @@ one_wider had f i k = ⊎_elim (λ before. grind (arith, nat_tests, before)) (λ
         let two = ap (λ b. if b then f i else 0) above in
         omega (arith, one, two)
 
--- behind all cells there is none
+-- after all cells there is none
 pub all_cells : (table : TableValue) (cells : List CellValue) (n i : ℕ) → length cells ≡ n
     → (if nat_lt i n then measured_at table cell_content_width (slice_get cells i) else 0) ≡ measured_at table cell_content_width (slice_get cells i)
 all_cells table cells n i all = by_test (nat_lt i n) refl
@@ -106,7 +106,7 @@ start_width had m first i =
     by_test true = omega arith
     by_test false = omega arith
 
--- the width for the number, and then for the fields, is that for all cells
+-- the widths after the number, and then after the fields, are those after all cells
 pub joined_width : (old m had now first n i : ℕ) → had ≡ max old (if nat_lt i first then m else 0) → now ≡ max had (if nat_lt i n then (if nat_lt i first then 0 else m) else 0) → (if nat_lt i n then m else 0) ≡ m → now ≡ max old m
 joined_width old m had now first n i = by_tests (nat_lt i first) (nat_lt i n)
   where

@@ -1,4 +1,4 @@
--- Fields with spaces behind them, and columns whose fields need none.
+-- Fields with spaces after them, and columns whose fields need no spaces.
 use Rattle.std.proofs.Common.{◌≡◌, ◌&&◌, ◌||◌, not, ◌++◌, ℕ, Bool, true, false, List, [], ◌∷◌, Option, Some, None, is_some, map, refl, sym, ap, ap₂, ◌∙◌}
 use Rattle.std.specs.List.{list_any}
 use Rattle.std.specs.Prelude.{if◌then◌else◌}
@@ -24,17 +24,17 @@ unseen : (keeps : Bool) → visible_of keeps [] ≡ []
 unseen true = refl
 unseen false = refl
 
--- an empty field needs none
+-- an empty field needs no spaces
 no_spaces : (points : Points) → spaces_behind points [] ≡ 0
 unfolding chars is_neutral
 no_spaces points = refl
 
--- an empty field stays so
+-- an empty field stays empty
 pub spaced-blank : (keeps : Bool) (mark : Option Points) → spaced keeps mark [] ≡ []
 spaced-blank keeps None = refl
 spaced-blank keeps (Some points) = ap spaces (ap (spaces_behind points) (unseen keeps) ∙ no_spaces points)
 
--- so does what a column shows of it
+-- a column shows nothing of an empty field
 pub blank_text : (look : Look) (is_aligned : Bool) (column : ColumnPlan) (fields : List Text) → field_or_blank fields column.position ≡ [] → text_in look is_aligned column fields ≡ []
 blank_text look is_aligned column fields blank =
     ap (spaced look.has_sequences (if is_aligned then column.points else None)) blank ∙ spaced-blank look.has_sequences (if is_aligned then column.points else None)
@@ -60,7 +60,7 @@ module _ (look : Look) where
       ap₂ (λ (mark : Option Points) (rest : List Shown). record { alignment = column.alignment; text = spaced look.has_sequences mark (field_or_blank fields column.position) } ∷ rest)
       (no_points column parts.0) (same_fields columns parts.1 fields)
 
-  -- none of those that are reached has one either
+  -- no column that is reached has a decimal mark either
   none_reached : (fields : List Text) (columns : List ColumnPlan) → has_points columns ≡ false → has_points (columns_within fields columns) ≡ false
   none_reached fields [] none = refl
   none_reached fields (column ∷ columns) none = by_any (list_any (has_field fields) (column ∷ columns)) refl (none_reached fields columns parts.1)
@@ -82,9 +82,9 @@ module _ (look : Look) where
     pub same_table : rows_table look true content ≡ rows_table look false content
     same_table = ap (λ (rows : List RowValue). with_rows rows (headed_table look content.is_numbered content.columns content.names)) (same_rows (counted_from 1 content.rows))
 
-  -- with this room for the spaces, or without it
+  -- for any test for room
   module _ (room : Bool → Bool) where
-    -- where marks aren't aligned, or there are none, the table is that without spaces
+    -- if marks aren't aligned, or there are none, the table is the one without spaces
     unaligned_by : (content : SelectedValue) → look.aligns_decimals && has_points content.columns ≡ false → rows_table look false content ≡ rows_table look (look.aligns_decimals && room true) content
     unaligned_by content none = by_tests look.aligns_decimals refl
       where
@@ -96,11 +96,11 @@ module _ (look : Look) where
             by_room true = sym (same_table content (ap (λ (a : Bool). a && has_points content.columns) (sym is) ∙ none))
             by_room false = refl
 
-    -- nor are they where there is no room for the spaces
+    -- marks aren't aligned if there is no room for the spaces
     pub without_room : room true ≡ false → look.aligns_decimals && room true ≡ false
     without_room none = ap (λ (b : Bool). look.aligns_decimals && b) none ∙ and_false look.aligns_decimals
 
-    -- what is drawn where there is room, or no marks are aligned
+    -- the table that is drawn if there is room, or no marks are aligned
     pub fits : (content : SelectedValue) (aligns has : Bool) → aligns ≡ look.aligns_decimals && has_points content.columns → has ≡ room aligns → has || not aligns ≡ true
         → rows_table look aligns content ≡ rows_table look (look.aligns_decimals && room true) content
     fits content false has is own drawn = unaligned_by content (sym is)
@@ -108,7 +108,7 @@ module _ (look : Look) where
         ap (λ (b : Bool). rows_table look b content) (sym (ap₂ (λ a b. a && b) (and_parts look.aligns_decimals (has_points content.columns) (sym is)).0 (sym own)))
     fits content true false is own drawn = absurd (cc drawn)
 
-    -- and there is as much room for it
+    -- the test for room gives the same for it
     pub fits_in : (content : SelectedValue) (aligns has : Bool) → aligns ≡ look.aligns_decimals && has_points content.columns → has ≡ room aligns → has || not aligns ≡ true → (has_points content.columns ≡ false → room true ≡ room false)
         → room aligns ≡ room (look.aligns_decimals && room true)
     fits_in content true true is own drawn same = ap room (sym (ap₂ (λ a b. a && b) (and_parts look.aligns_decimals (has_points content.columns) (sym is)).0 (sym own)))

@@ -1,4 +1,4 @@
--- What is visible of the lines of an output is equally wide.
+-- The visible lines of an output are equally wide.
 use Rattle.std.proofs.Common.{◌≡◌, ℕ, ◌≤◌, ◌⊎◌, Bool, true, false, List, [], ◌∷◌, Option, Some, None, All, arith, inl, inr, max, option_map, slice_index_or, unwrap_or, ap, refl, subst, sym, ◌∙◌}
 use Rattle.std.proofs.lemmas.List.Elements.{All-cons, All-map, All-nil, All-weaker}
 use Rattle.std.proofs.lemmas.Str.{chars-nil}
@@ -48,7 +48,7 @@ IsShort text = measure text ≤ 65535
 pub empty_is_short : IsShort []
 empty_is_short = rw measure-nil (omega arith)
 
--- a short text, whose selectors agree where texts are cut
+-- a short text; its variation selectors agree if texts are cut by height
 abbrev IsWholeText : Option ℕ → Text → Type 0
 IsWholeText limit text = IsShort text × ((limit ≡ None) ⊎ SelectorsAgree text)
 
@@ -85,7 +85,7 @@ short_rows look uncut =
 abbrev EachCellText : (Text → Type 0) → RowValue → Type 0
 EachCellText P row = All (λ (cell : CellValue). All P cell.text_lines) row.cells
 
--- a row of short texts, whose selectors agree where it has a greatest height
+-- a row of short texts; their variation selectors agree if the row has a greatest height
 record IsWholeRow (row : RowValue) : Type 0 where
   short : EachCellText IsShort row
   agree : (h : ℕ) → row.max_height ≡ Some h → EachCellText SelectorsAgree row
@@ -103,7 +103,7 @@ whole_rows limit look same =
       pair = λ name field own other. made _ (pair_each Whole empty look name field own other) limited;
     }
   where
-    -- a limit is known where a row has a greatest height
+    -- the limit is set if a row has a greatest height
     limited : (h : ℕ) → option_map (max 1) look.max_height ≡ Some h → (text : Text) → IsWholeText limit text → SelectorsAgree text
     limited h tall text (short, inr agrees) = agrees
     limited h tall text (short, inl none) = let gone : option_map (max 1) look.max_height ≡ None = ap (option_map (max 1)) (same ∙ none) in absurd (cc (gone, tall))
@@ -141,7 +141,7 @@ default_rows look =
         All-cons (λ (cell : CellValue). cell.delimiter ≡ None) (with_weight look.has_bold_header (cell_for look None name)) (cell_for look None field ∷ []) (weighted look.has_bold_header (cell_for look None name) refl)
         (All-cons (λ (cell : CellValue). cell.delimiter ≡ None) (cell_for look None field) [] refl (All-nil (λ (cell : CellValue). cell.delimiter ≡ None)))
 
--- such a row of texts of which P holds
+-- such a row with a property P of its texts
 pub record IsDefaultRowOf (P : Text → Type 0) (row : RowValue) : Type 0 where
   pub no_delimiters : IsDefaultRow row
   pub each : EachCellText P row
@@ -157,18 +157,18 @@ default_rows_of P empty look =
 
 -- ---- tables
 
--- nothing is in bold, or no control character stands beside sequences
+-- nothing is bold, or control characters occur only in sequences
 abbrev pub IsSeenTable : Bool → Look → TableValue → Type 0
 IsSeenTable false look table = look.has_bold_header ≡ false
 IsSeenTable true look table = IsFreeOfControls table
 
--- no control character is visible of the lines of such a table
+-- no control character is visible in the lines of such a table
 pub clear_lines : (visible : Bool) (look : Look) (table : TableValue) (lines : List Text) → IsTableDrawing table lines → IsSeenTable visible look table → visible ≡ true → All HasNoControl (seen_lines visible lines)
 clear_lines true look table lines drawing free is = All-map HasNoControl visible_text lines (drawing.controls.without_controls free)
 clear_lines false look table lines drawing plain is = absurd (cc is)
 
 module _ (look : Look) (no_sequences : look.has_sequences ≡ false) (content : SelectedValue) (table : TableValue) (lines : List Text) (drawing : IsTableDrawing table lines) where
-  -- what holds of the lines without styling holds of the lines as they are seen
+  -- a property of the lines without styling is one of the visible lines
   pub seen_all : (Q : RowValue → Type 0) → IsDrawn look Q content table → (visible : Bool) → IsSeenTable visible look table → (R : Text → Type 0) → All R (drawn_over (unstyled table) drawing.widths) → All R (seen_lines visible lines)
   seen_all Q known true free R each = subst (All R) (sym (drawing.sequences.without_sequences (free_of_escapes table free))) each
   seen_all Q known false plain R each =
@@ -177,16 +177,16 @@ module _ (look : Look) (no_sequences : look.has_sequences ≡ false) (content : 
       (subst (All R) (sym (drawing.edges.unstyled_lines (ap should_style looks ∙ rw plain refl) (ap (λ (t : TableValue). t.custom_styling) looks ∙ no_sequences))) each)
 
 module _ (look : Look) (no_sequences : look.has_sequences ≡ false) (characters : IsOneColumnStyle look.style) (content : SelectedValue) (table : TableValue) (lines : List Text) (drawing : IsTableDrawing table lines) where
-  -- they are equally wide where the table is straight
+  -- the visible lines are equally wide if the table is straight
   equally_wide : (Q : RowValue → Type 0) → IsDrawn look Q content table → (visible : Bool) → IsSeenTable visible look table → IsStraightTable table drawing.widths → AreEquallyWide (seen_lines visible lines)
   equally_wide Q known visible seen is = (line_total table drawing.widths, seen_all look no_sequences content table lines drawing Q known visible seen (λ line. measure line ≡ line_total table drawing.widths) (drawing.edges.straight is))
 
   module _ (Q : RowValue → Type 0) (known : IsDrawn look Q content table) where
-    -- the characters are those of the look
+    -- the characters of the style are those of the look
     characters_known : IsOneColumnStyle table.style
     characters_known = subst IsOneColumnStyle (sym (ap (λ (t : TableValue). t.style) (drawn-is look Q content table known))) characters
 
-    -- and the indicator is that of a new table
+    -- the indicator is that of a new table
     apart_indicator : IsApart table.indicator
     apart_indicator = subst IsApart (sym (ap (λ (t : TableValue). t.indicator) (drawn-is look Q content table known))) ellipsis_is_apart
 
@@ -211,7 +211,7 @@ module _ (look : Look) (no_sequences : look.has_sequences ≡ false) (characters
               indicator = inr apart_indicator;
             }
 
-  -- so is one whose characters take one column each
+  -- a table whose characters take one terminal column each is straight
   narrow : IsDrawn look (IsDefaultRowOf (CharactersFit 1)) content table → IsStraightTable table drawing.widths
   narrow known = fitting (IsDefaultRowOf (CharactersFit 1)) known (λ row own. own.no_delimiters) each
     where
@@ -226,7 +226,7 @@ module _ (look : Look) (no_sequences : look.has_sequences ≡ false) (characters
           All-weaker (CharactersFit 1) (CharactersFit p.1.content_width) (wider_column 1 p.1.content_width (some_room j other below)) cell.text_lines
           (All-at (λ (c : CellValue). All (CharactersFit 1) c.text_lines) row.cells p.0 cell of_row.each found)
 
-  -- and one that keeps to no width, of short texts
+  -- a table of short texts without a set width is straight
   whole : IsDrawn look IsWholeRow content table → look.width ≡ None → IsStraightTable table drawing.widths
   whole known no_width =
       record { characters = characters_known IsWholeRow known; apart = inr (inl (padded-drawn look IsWholeRow content table known)); fits = inr (inl fits) }
@@ -252,7 +252,7 @@ module _ (look : Look) (no_sequences : look.has_sequences ≡ false) (characters
 
 -- ---- outputs
 
--- texts of one kind make contents of that kind, with lines between rows or without
+-- texts of one kind make a selection of that kind, with lines between rows or without
 each_separated : (P : Text → Type 0) (look : Look) (has is_aligned : Bool) (content : SelectedValue) → EachShown (EachLine P look) look is_aligned content → EachShown (EachLine P (separated has look)) (separated has look) is_aligned content
 each_separated P look true is_aligned content each = each
 each_separated P look false is_aligned content each = record { fields = each.fields; shown = each.shown }
@@ -264,7 +264,7 @@ seen_table counted layout records content is is_expanded true false plain = plai
 seen_table counted layout records content is is_expanded false false plain = plain
 seen_table counted layout records content is is_expanded has true (clear, text) = free_output layout.look clear content (each_content AllText counted layout records content is text) is_expanded has
 
--- short texts, whose selectors agree where texts are cut
+-- short texts, whose variation selectors agree if texts are cut
 whole_texts : (look : Look) (records : List (List Text)) → EachText IsShort look records → CanBeCut look records → EachText (IsWholeText look.max_height) look records
 whole_texts look records short (inl uncut) k fields under j field below i text inside = (short k fields under j field below i text inside, inl uncut)
 whole_texts look records short (inr agree) k fields under j field below i text inside = (short k fields under j field below i text inside, inr (agree k fields under j field below i text inside))
@@ -297,7 +297,7 @@ module _ (visible : Bool) (counted : Option ℕ) (layout : Layout) (records : Li
   seen : IsSeenTable visible own table
   seen = seen_table counted layout records made.content made.is_content text.is_expanded has visible plain.seen
 
-  -- the drawn table, of rows of which Q holds
+  -- the drawn table, with a property Q of its rows
   of_texts : (P : Text → Type 0) (empty : P []) (Q : RowValue → Type 0) → MakesRows P empty own Q → EachText P look records → HoldsOfShort P → IsDrawn own Q made.content table
   of_texts P empty Q makes each gives =
       let fields = each_content (All (EachLine P look)) counted layout records made.content made.is_content each in
@@ -307,11 +307,11 @@ module _ (visible : Bool) (counted : Option ℕ) (layout : Layout) (records : Li
       drawn_table-is look Q made.content text.is_expanded has
       (table_of_texts P empty own (short_drawn P gives own) Q makes made.content is_aligned (each_separated P look has is_aligned made.content shown) text.is_expanded)
 
-  -- no control character is visible of its lines
+  -- no control character is visible in its lines
   pub clear : visible ≡ true → All HasNoControl (seen_lines visible lines)
   clear = clear_lines visible own table lines headline seen
 
-  -- the output is straight where its table is
+  -- the output is straight if its table is
   straight : (Q : RowValue → Type 0) → IsDrawn own Q made.content table → IsStraightTable table headline.widths → IsStraightOutput visible counted layout records output
   straight Q known is =
       record {
@@ -321,7 +321,7 @@ module _ (visible : Bool) (counted : Option ℕ) (layout : Layout) (records : Li
         clear = clear;
       }
 
-  -- where no character takes more than one terminal column
+  -- if no character takes more than one terminal column
   module _ (each : EachText (CharactersFit 1) layout.look records) where
     narrow_known : IsDrawn own (IsDefaultRowOf (CharactersFit 1)) made.content table
     narrow_known =
@@ -347,7 +347,7 @@ module _ (visible : Bool) (counted : Option ℕ) (layout : Layout) (records : Li
         fitting own unkept (separated_is_one_column has look characters) made.content table lines headline IsDefaultRow fitting_known (λ row is. is)
         (fits made.content table headline.widths made.is_content (has, ap (λ e. separated_table has (output_table e look made.content)) (expansion counted layout records output made text none)) headline.arranged)
 
-    -- its lines are counted so too
+    -- its lines are counted in terminal columns too
     pub fitting_lines : (P : ℕ → Type 0) → LineWidthsSatisfy P table headline.widths → All (λ line. P (measure line)) (seen_lines visible lines)
     fitting_lines P counts = seen_all own unkept made.content table lines headline IsDefaultRow fitting_known visible seen (λ line. P (measure line)) (counts.straight_lines fitting_table)
 

@@ -1,4 +1,4 @@
--- Tables of columns that have settings of their own, and those without settings.
+-- Tables of columns with their own settings, and those without settings.
 use Rattle.std.proofs.Common.{◌≡◌, ◌&&◌, ◌||◌, ◌==◌, ◌-◌, ◌++◌, not, ℕ, zero, suc, Bool, true, false, List, [], ◌∷◌, Option, Some, None, is_some, length, map, min, refl, subst, sym, ap, ap₂, ◌∙◌}
 use Rattle.std.specs.List.{list_all, list_any, range_with_len}
 use Rattle.std.specs.Prelude.{if◌then◌else◌}
@@ -25,7 +25,7 @@ use Rattle.csv_tables.specs.declared.options.Look.{Look}
 abbrev any_pointed : List ColumnLimits → Bool
 any_pointed limits = list_any (λ (own : ColumnLimits). own.has_points) limits
 
--- limits are of columns that have marks, if columns have them
+-- limits have marks if columns have them
 map_pointed : (settings : List ColumnSettings) (columns : List ColumnPlan) → any_pointed (map (λ (column : ColumnPlan). limits_of (settings_at settings column.position) (is_some column.points)) columns) ≡ has_points columns
 map_pointed settings [] = refl
 map_pointed settings (column ∷ columns) = ap (λ (b : Bool). is_some column.points || b) (map_pointed settings columns)
@@ -56,13 +56,13 @@ all_true : (f : ℕ → Bool) → ((i : ℕ) → f i ≡ true) → (xs : List �
 all_true f each [] = refl
 all_true f each (x ∷ xs) = ap₂ (λ (a b : Bool). a && b) (each x) (all_true f each xs)
 
--- without marks none is in a text that is wrapped
+-- without marks, no text with a mark is wrapped
 none_wrapped : (limits : List ColumnLimits) (table : TableValue) → any_pointed limits ≡ false → hold_points limits table ≡ true
 none_wrapped limits table none =
     all_true (holds_points limits table)
     (λ i. ap (λ (b : Bool). not b || is_within (limits_at limits i).greatest (column_content_width table i)) (at_unpointed limits i none)) (range_with_len 0 (length limits))
 
--- and there is as much room for a table that is to have them lined up
+-- a table that would align marks then has as much room
 pub room_without_points : (settings : SettingsValue) (look : Look) (content : SelectedValue) → has_points content.columns ≡ false → has_room_by settings look content true ≡ has_room_by settings look content false
 room_without_points settings look content none =
     let limits = limits_in settings.columns content in
@@ -83,19 +83,19 @@ without_content : (is_markdown : Bool) (look : Look) (content : SelectedValue) (
 without_content true look content text is = is
 without_content false look content text is = record { is_expanded = is.is_expanded; expansion = is.expansion; drawn = without_table is.is_expanded look content text is.drawn }
 
--- an output is what it is without them
+-- without settings, an output is the one of `Drawn`
 pub without_settings : (counted : Option ℕ) (layout : Layout) (records : List (List Text)) (output : Text) → RendersStyledRecords no_settings counted layout records output → RendersRecords counted layout records output
 without_settings counted layout records output is =
     record { content = is.content; is_content = is.is_content; text = is.text; is_text = without_content layout.look.is_markdown layout.look is.content is.text is.is_text; joined = is.joined }
 
--- so is one for records that are all there are
+-- the same for records that are counted
 pub without_settings_any : (layout : Layout) (records : List (List Text)) (output : Text) → RendersAnyStyledRecords no_settings layout records output → RendersAnyRecords layout records output
 without_settings_any layout [] output is = is
 without_settings_any layout (r ∷ rest) output is = without_settings (Some (count_below layout.selection (r ∷ rest))) layout (r ∷ rest) output is
 
 -- ---- records that are counted
 
--- the output for some records, where all are counted
+-- the output for some records, if all are counted
 pub any_styled_output : (settings : SettingsValue) (layout : Layout) (records : List (List Text)) (count : ℕ) (output : Text) → (length records ≡ 0 → ⊥) → count ≡ length records - (if layout.selection.has_header then 1 else 0)
     → RendersStyledRecords settings (Some count) layout records output → RendersAnyStyledRecords settings layout records output
 any_styled_output settings layout [] count output some counted made = absurd (some refl)
@@ -115,7 +115,7 @@ centered-least : (settings : List ColumnSettings) (columns : List ColumnPlan) �
 centered-least settings [] = refl
 centered-least settings (column ∷ columns) = ap₂ (λ (n m : ℕ). min n m) (centered-position settings column) (centered-least settings columns)
 
--- their positions stay
+-- centred columns keep their positions
 pub centered-leasts : (settings : List ColumnSettings) (columns : List ColumnPlan) → least_positions (map (centered settings) columns) ≡ least_positions columns
 centered-leasts settings [] = refl
 centered-leasts settings (column ∷ columns) = ap₂ (λ (n : ℕ) (ns : List ℕ). n ∷ ns) (centered-least settings (column ∷ columns)) (centered-leasts settings columns)

@@ -1,4 +1,4 @@
--- What fields of columns say together, one field and one record more.
+-- Summaries of columns with one field and one record more.
 use Rattle.std.proofs.Common.{◌≡◌, ◌≢◌, ◌<◌, ◌==◌, ◌&&◌, ◌||◌, ℕ, Bool, true, false, zero, suc, List, [], ◌∷◌, ◌++◌, Option, None, Some, append_assoc, append-nil, eqb-true, length, nat_le, take, unwrap_or, arith, refl, sym, ap, ap₂, ◌∙◌}
 use Rattle.std.proofs.lemmas.Bool.{eqb-false}
 use Rattle.std.specs.List.{list_all, list_any, slice_index_or}
@@ -33,15 +33,15 @@ blank_at [] k = refl
 blank_at (f ∷ fs) zero = refl
 blank_at (f ∷ fs) (suc k) = blank_at fs k
 
--- what is seen of the field that a walk comes to
+-- the visible text of the field at a position
 pub seen_here : (keeps : Bool) (fields : List Text) (k : ℕ) (field : Text) → slice_index_or fields k [] ≡ field → field_or_blank (seen keeps fields) k ≡ visible_of keeps field
 seen_here keeps fields k field is = seen_at keeps fields k ∙ ap (visible_of keeps) (blank_at fields k ∙ is)
 
--- a field that is there, as a list
+-- the field at a position as a list, which is empty if it is missing
 abbrev pub field_there : List Text → ℕ → List Text
 field_there fields position = column_fields (fields ∷ []) position
 
--- before a position
+-- before its position a field isn't there
 none_yet : (fields : List Text) (k : ℕ) → field_there (take k fields) k ≡ []
 unfolding field_at
 none_yet [] zero = refl
@@ -49,14 +49,14 @@ none_yet [] (suc k) = refl
 none_yet (f ∷ fs) zero = refl
 none_yet (f ∷ fs) (suc k) = none_yet fs k
 
--- up to it
+-- after its position it is there
 then_there : (fields : List Text) (k : ℕ) → k < length fields → field_there (take (suc k) fields) k ≡ field_or_blank fields k ∷ []
 unfolding field_at
 then_there [] k below = absurd (omega (arith, below))
 then_there (f ∷ fs) zero below = refl
 then_there (f ∷ fs) (suc k) below = then_there fs k (omega (arith, below))
 
--- at any other position
+-- at any other position nothing changes
 same_there : (fields : List Text) (k at : ℕ) → k ≢ at → field_there (take (suc k) fields) at ≡ field_there (take k fields) at
 unfolding field_at
 same_there [] zero at other = refl
@@ -72,18 +72,18 @@ one_more rows fields position = filter_map-append (λ (fs : List Text). field_at
 -- ---- summaries
 
 module _ (rows : List (List Text)) (fields : List Text) (summaries : List ColumnSummary) where
-  -- no field more
+  -- a record without fields changes no summary
   pub no_field : AreSummaries rows summaries → AreSummaries (rows ++ [] ∷ []) summaries
   unfolding field_at
   no_field so position = so position ∙ ap summary_of (sym (one_more rows [] position ∙ append-nil (column_fields rows position)))
 
   module _ (k : ℕ) (so : AreSummaries (rows ++ take k fields ∷ []) summaries) where
-    -- what is known at a position
+    -- the summary at a position
     pub known_at : slice_index_or summaries k (summary_of []) ≡ summary_of (column_fields rows k)
     known_at =
         so k ∙ ap summary_of (one_more rows (take k fields) k ∙ ap (λ fs. column_fields rows k ++ fs) (none_yet fields k) ∙ append-nil (column_fields rows k))
 
-    -- with the field there
+    -- the summary with the field at this position
     module _ (more : List ColumnSummary) (value : ColumnSummary) (below : k < length fields) (is : value ≡ summary_of (column_fields rows k ++ field_or_blank fields k ∷ []))
         (put : (at : ℕ) → slice_index_or more at (summary_of []) ≡ if k == at then value else slice_index_or summaries at (summary_of [])) where
       pub next_field : AreSummaries (rows ++ take (suc k) fields ∷ []) more
@@ -105,7 +105,7 @@ module _ (rows : List (List Text)) (fields : List Text) (summaries : List Column
 
 -- ---- records
 
--- summaries of the records before the rest
+-- summaries of the records before `rest`
 pub record AreSummariesUntil (all rest : List (List Text)) (summaries : List ColumnSummary) : Type 0 where
   pub done : List (List Text)
   pub whole : done ++ rest ≡ all
@@ -184,7 +184,7 @@ empty_says_nothing fields [] none = same_summary (summary_of fields) (summary_of
 
 -- ---- columns that aren't of numbers
 
--- a field that is no number and not neutral isn't plain
+-- a field that is neither a number nor neutral isn't plain
 other_is_not_plain : (field : Text) → is_other_kind (kind_of field) ≡ true → is_plain field ≡ false
 other_is_not_plain field other = by_tests (is_number field) refl (is_neutral field) refl
   where
@@ -267,7 +267,7 @@ module _ (fields : List Text) (field : Text) where
       (kind ∙ ap (λ (s : ColumnSummary). joined_kind s.kind (kind_of field)) same ∙ kind_with) marks
       (unbroken ∙ ap (λ (s : ColumnSummary). s.are_nowrap && is_nowrap field) same ∙ sym (all_with fields field is_nowrap (is_nowrap field) refl))
 
-  -- why fields have no marks any more
+  -- a wide field, after which the column has no marks
   pub wide_field : is_narrow field ≡ false → narrow_marks (fields ++ field ∷ []) ≡ None
   wide_field wide = rw (all_with fields field is_narrow false wide) (by_cases (list_all is_narrow fields) (list_all is_plain (fields ++ field ∷ [])))
     where
@@ -290,7 +290,7 @@ module _ (fields : List Text) (field : Text) where
       by_cases true false is true q = refl
       by_cases true false is false q = refl
 
--- what marks are, as long as there are any
+-- the marks of a column that still has some
 pub known_marks : (fields : List Text) (known : ColumnMarks) → narrow_marks fields ≡ Some known → known ≡ marks_of fields
 known_marks fields known is = by_test (list_all is_narrow fields && list_all is_plain fields) is
   where

@@ -1,4 +1,5 @@
--- A text of which nothing harmful is visible has text lines of which no replaced character is: no sequence spans a line feed.
+-- If no harmful character is visible in a text, no replaced character is visible in its text lines, since no sequence
+-- spans a line feed.
 use Rattle.std.proofs.Common.{◌≡◌, ℕ, inl, inr, Bool, true, false, cond, ◌==◌, ◌&&◌, not, List, [], ◌∷◌, ◌++◌, encode_utf8, encode_utf8_all, map, refl, sym, ap, ◌∙◌, subst, arith, append-nil, eqb-true}
 use Rattle.std.proofs.lemmas.Bool.{or_parts}
 use Rattle.std.proofs.lemmas.List.Elements.{All-cons, All-head, All-nil, All-tail}
@@ -21,13 +22,13 @@ use Rattle.csv_tables.specs.Controls.{HasNothingHarmful}
 abbrev pub text_lines : Text → List Text
 text_lines text = slice_split (λ b. b == 0x0A) text
 
--- these are the first one and the others
+-- the text has these text lines
 pub record AreLines (text : Text) : Type 0 where
   pub first : Text
   pub others : List Text
   pub are : text_lines text ≡ first ∷ others
 
--- of a text behind a byte that is no line feed
+-- the text lines after a first byte that isn't a line feed
 lines-byte : (b : ℕ) (text : Text) → (b == 0x0A) ≡ false → AreLines text → AreLines (b ∷ text)
 lines-byte b text other lines =
     record { first = b ∷ lines.first; others = lines.others; are = slice_split-cons_no (λ x. x == 0x0A) b text other ∙ ap (onto_first b) lines.are }
@@ -40,7 +41,7 @@ lines_of (b ∷ bs) = by_test (b == 0x0A) refl (lines_of bs)
     by_test true is more = record { first = []; others = text_lines bs; are = ap (λ t. cond t ([] ∷ text_lines bs) (onto_first b (text_lines bs))) is }
     by_test false is more = lines-byte b bs is more
 
--- the text line that what has no line feed is continued by
+-- the first text line after a prefix without line feeds
 pub lines-front : (front text : Text) → HasNo 0x0A front → (first : Text) (others : List Text) → text_lines text ≡ first ∷ others → text_lines (front ++ text) ≡ (front ++ first) ∷ others
 lines-front [] text clear first others are = are
 lines-front (b ∷ bs) text clear first others are =
@@ -49,7 +50,7 @@ lines-front (b ∷ bs) text clear first others are =
 
 -- ---- texts without harmful characters
 
--- a harmless character that is no line feed isn't replaced
+-- a harmless character that isn't a line feed isn't replaced
 harmless_is_plain : (c : ℕ) → is_harmful c ≡ false → (c == 0x0A) ≡ false → is_replaced c ≡ false
 harmless_is_plain c harmless other = by_test (is_replaced c) (c == 0x0A) harmless other
   where
@@ -85,11 +86,11 @@ module _ where
 
 -- ---- what is visible of text lines
 
--- what is visible of the text lines of a text are the text lines of what is visible of it
+-- the visible text lines of a text are the text lines of its visible text
 abbrev AreShown : Text → Text → Type 0
 AreShown text shown = map visible_text (text_lines text) ≡ text_lines shown
 
--- behind a front without a line feed that shows this, whatever follows
+-- the same after a prefix without line feeds, whose visible text is known
 shown-front : (front shown text rest : Text) → HasNo 0x0A front → HasNo 0x0A shown → ((more : Text) → visible_text (front ++ more) ≡ shown ++ visible_text more) → AreShown text rest → AreShown (front ++ text) (shown ++ rest)
 shown-front front shown text rest clear own shows are =
     let lines = lines_of text in
@@ -97,11 +98,11 @@ shown-front front shown text rest clear own shows are =
     ∙ ap (λ (first : Text). first ∷ map visible_text lines.others) (shows lines.first)
     ∙ sym (lines-front shown rest own (visible_text lines.first) (map visible_text lines.others) (sym are ∙ ap (map visible_text) lines.are))
 
--- behind a line feed
+-- the same after a line feed
 shown-line_feed : (text rest : Text) → AreShown text rest → AreShown (0x0A ∷ text) (0x0A ∷ rest)
 shown-line_feed text rest are = ap (λ (others : List Text). [] ∷ others) are
 
--- so it is with scanned parts of which no visible byte is ESC
+-- the same after scanned parts whose visible bytes aren't ESC
 shown-parts : (ps : List Part) (rest : Text) → AreScanned ps rest → HasNo 0x1B (flat_map visible_bytes ps) → AreShown (bytes_of ps) (flat_map visible_bytes ps)
 shown-parts [] rest scanned clear = refl
 shown-parts (p ∷ ps) rest (inl part, more) clear =

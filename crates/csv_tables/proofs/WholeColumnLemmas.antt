@@ -1,4 +1,4 @@
--- Columns that have a width of their own, and the room that they need.
+-- Columns with their own widths, and the room that they need.
 use Rattle.std.proofs.Common.{◌≡◌, ◌≤◌, ◌&&◌, nat_le, ℕ, suc, ◌+◌, Bool, true, false, not, List, [], ◌∷◌, Some, None, filter, flat_map, length, map, max, sum_by, unwrap_or, refl, sym, ap, subst, arith}
 use Rattle.std.specs.List.{All, AllByRecursion, enumerate_from, range_with_len}
 use Rattle.std.specs.Prelude.{if◌then◌else◌}
@@ -24,7 +24,7 @@ use Rattle.csv_tables.specs.declared.options.Look.{Look}
 
 -- ---- what columns need
 
--- these columns need no more than their paddings and these contents, and no less than one terminal column each
+-- these columns need at most their paddings and these contents, and at least one terminal column each
 pub record AreNeeds (columns : List ColumnNeeds) (contents : List ℕ) : Type 0 where
   pub count : length columns ≡ length contents
   pub room : sum_by (λ (column : ColumnNeeds). column.padding) columns + sum_by least_of columns ≤ sum_by (λ content. 2 + content) contents
@@ -48,11 +48,11 @@ needs-cons column content columns contents own more =
 
 -- ---- columns of a table
 
--- columns that have at least these contents
+-- columns with these content widths as lower boundaries
 abbrev pub leasts_on : List ℕ → List ColumnValue → List ColumnValue
 leasts_on kept columns = constrained (map lower_bound kept) columns
 
--- a boundary that is fixed at once takes as much as one that isn't
+-- a lower boundary that is fixed at once takes as much as one that isn't
 as_much : (content padding l : ℕ) → unwrap_or (fixed_by_boundary content padding (Some l)) (without_padding padding l) ≡ without_padding padding l
 as_much content padding l = by_test (nat_le (content + padding) l)
   where
@@ -73,7 +73,7 @@ module _ (table : TableValue) where
   needs kept needed within [] n new = record { count = refl; room = omega arith; least = omega arith }
   needs kept needed within (column ∷ columns) n new = needs-cons _ _ _ _ (need (kept n) (needed n) n column (within n) new.0) (needs kept needed within columns (n + 1) new.1)
 
--- none of them is hidden
+-- none of these columns is hidden
 shown : (column : ColumnValue) → IsNewColumn column → not (is_hidden_column column) ≡ true
 shown column new = ap (λ c. not (is_hidden_constraint c)) new.no_constraint
 
@@ -83,14 +83,14 @@ each_shown [] (column ∷ columns) new = (shown column new.0, each_shown [] colu
 each_shown (least ∷ more) [] new = tt
 each_shown (least ∷ more) (column ∷ columns) new = (refl, each_shown more columns new.1)
 
--- so all of them are shown
+-- all of them are shown
 pub all_shown : (kept : List ℕ) (columns : List ColumnValue) → AllByRecursion IsNewColumn columns
     → filter (λ (p : ℕ × ColumnValue). not (is_hidden_column p.1)) (enumerate_from 0 (leasts_on kept columns)) ≡ enumerate_from 0 (leasts_on kept columns)
 all_shown kept columns new =
     filter_all (λ (p : ℕ × ColumnValue). not (is_hidden_column p.1)) (enumerate_from 0 (leasts_on kept columns))
     (every-places (λ (column : ColumnValue). not (is_hidden_column column) ≡ true) 0 (leasts_on kept columns) (each_shown kept columns new))
 
--- they are as many
+-- constraints don't change the number of columns
 pub constrained-length : (constraints : List ColumnConstraint) (columns : List ColumnValue) → length (constrained constraints columns) ≡ length columns
 constrained-length [] columns = refl
 constrained-length (first ∷ more) [] = refl
@@ -99,7 +99,7 @@ constrained-length (first ∷ more) (column ∷ columns) = ap suc (constrained-l
 pub leasts-length : (kept : List ℕ) (columns : List ColumnValue) → length (leasts_on kept columns) ≡ length columns
 leasts-length kept columns = constrained-length (map lower_bound kept) columns
 
--- their paddings and their delimiter are those of new columns
+-- a column with the paddings and the delimiter of a new column
 pub record IsPaddedColumn (column : ColumnValue) : Type 0 where
   pub padding : column.padding ≡ (1, 1)
   pub no_delimiter : column.delimiter ≡ None
@@ -116,7 +116,7 @@ padded_columns (least ∷ more) (column ∷ columns) new = (record { padding = n
 
 -- ---- names and fields
 
--- fields of a width are no wider than the room
+-- a number or date is at most as wide as the room, or counts as 0
 line-within : (room : ℕ) (line : Text) → nowrap_width room line ≤ room
 line-within room line = by_test (is_nowrap line) (nat_le (measure line) room) refl
   where
@@ -137,7 +137,7 @@ field_width-within room table =
 abbrev pub HasTwo : RowValue → Type 0
 HasTwo row = length row.cells ≡ 2
 
--- a record has two columns, of names and of fields
+-- a table of expanded records has at most two columns
 two_at_most : (rows : List RowValue) (table : TableValue) → All HasTwo rows → length table.columns ≤ 2 → length (with_rows rows table).columns ≤ 2
 two_at_most [] table two below = below
 two_at_most (row ∷ rows) table two below =
@@ -152,7 +152,7 @@ two_stay (row ∷ rows) table two is =
     let grown = no_fewer_columns (length row.cells) table.columns in
     two_stay rows (with_row row table) (All-tail HasTwo row rows two) (omega (arith, own, grown, is))
 
--- where it has a row, it has both
+-- with a row, it has both
 pub exactly_two : (row : RowValue) (rows : List RowValue) (table : TableValue) → All HasTwo (row ∷ rows) → length table.columns ≤ 2 → length (with_rows (row ∷ rows) table).columns ≡ 2
 exactly_two row rows table two below =
     let own : length row.cells ≡ 2 = All-head HasTwo row rows two in
@@ -170,14 +170,14 @@ pairs_are_two look content =
 pub pairs_have_two : (look : Look) (content : SelectedValue) → length (pairs_table look content).columns ≤ 2
 pairs_have_two look content = two_at_most (flat_map (pairs_in look content) content.rows) (empty_table look) (pairs_are_two look content) (omega arith)
 
--- fields of a width, beside new names
+-- the fields have a width, beside new columns of names
 pub padded_second : (field : ℕ) (columns : List ColumnValue) → AllByRecursion IsNewColumn columns → AllByRecursion IsPaddedColumn (with_second field columns)
 padded_second field [] new = tt
 padded_second field (a ∷ []) new = (padded_column a new.0, tt)
 padded_second field (a ∷ b ∷ more) new = (padded_column a new.0, (record { padding = new.1.0.padding; no_delimiter = new.1.0.no_delimiter; no_alignment = new.1.0.no_alignment }, padded_columns [] more new.1.1))
 
 module _ (table : TableValue) (field : ℕ) (a b : ColumnValue) (new : AllByRecursion IsNewColumn (a ∷ b ∷ [])) where
-  -- both are shown
+  -- both columns are shown
   pub both_shown : filter (λ (p : ℕ × ColumnValue). not (is_hidden_column p.1)) (enumerate_from 0 (with_second field (a ∷ b ∷ []))) ≡ (0, a) ∷ (1, with_content field b) ∷ []
   both_shown =
       filter_all (λ (p : ℕ × ColumnValue). not (is_hidden_column p.1)) (enumerate_from 0 (with_second field (a ∷ b ∷ [])))

@@ -1,4 +1,4 @@
--- Rows of fields that are whole characters keep what all rows keep.
+-- Rows of UTF-8 fields have the properties of all rows.
 use Rattle.std.proofs.Common.{◌≡◌, ◌≤◌, ℕ, ◌+◌, Bool, true, false, ◌==◌, List, [], ◌∷◌, ◌++◌, Option, Some, None, IfSome, chars, codes, cond, max, arith, append-nil, decimal, ◌&&◌, encode_utf8, encode_utf8_all, eqb-true, refl, ap, ap₂, ◌||◌, sym, subst, ◌∙◌}
 use Rattle.std.proofs.lemmas.Bool.{and_parts}
 use Rattle.std.proofs.lemmas.List.Elements.{All-append, All-cons, All-head, All-map, All-nil, All-tail, All-weaker}
@@ -37,7 +37,7 @@ use Rattle.csv_tables.specs.declared.rows.RecordRows.{RecordRows}
 
 -- ---- text lines
 
--- whole characters without a line feed
+-- UTF-8 without a line feed
 abbrev IsLine : Text → Type 0
 IsLine text = IsUtf8 text × (list_any (λ b. b == 0x0A) text ≡ false)
 
@@ -80,7 +80,7 @@ has_lines text utf8 =
 
 -- ---- cells
 
--- characters that are escaped are characters
+-- the escaped characters are scalar values
 escaped_scalars : (is_marked : Bool) (before : Option ℕ) (cs : List ℕ) → all_scalars cs ≡ true → all_scalars (escaped_after is_marked before cs) ≡ true
 escaped_scalars is_marked before [] all = refl
 escaped_scalars is_marked before (c ∷ cs) all =

@@ -1,4 +1,4 @@
--- Tables that are drawn: some of their columns are as wide as their contents, where there is room for them.
+-- Tables that are drawn, some of whose columns are as wide as their contents if there is room.
 use Rattle.std.proofs.Common.{◌≡◌, ◌≤◌, ◌<◌, ◌⊎◌, ◌||◌, ℕ, ◌+◌, ◌-◌, inl, inr, Bool, true, false, max, min, not, List, [], ◌∷◌, Option, Some, None, is_some, length, map, nat_le, sum_by, refl, sym, ap, ◌∙◌, subst, arith}
 use Rattle.std.specs.Prelude.{if◌then◌else◌, slice_index}
 use Rattle.std.specs.List.{All, AllByRecursion}
@@ -29,7 +29,8 @@ use Rattle.csv_tables.specs.declared.options.Look.{Look}
 
 -- ---- room
 
--- a width has room for the fixed widths and the lower boundaries of a table, and for one terminal column of each other column
+-- the width has room for the fixed widths and the lower boundaries of a table, and for one terminal column of each
+-- other column
 pub record HasRoom (w : ℕ) (table : TableValue) : Type 0 where
   pub contents : List ℕ
   pub needs : AreNeeds (shown_needs table) contents
@@ -42,15 +43,15 @@ module _ (w : ℕ) (table : TableValue) (room : HasRoom w table) where
   framed : border_count table.style (shown_count table) + (sum_by (λ (column : ColumnNeeds). column.padding) (shown_needs table) + sum_by least_of (shown_needs table)) ≤ w
   framed = rw count (omega (arith, room.fits, room.needs.room))
 
-  -- so it has room for one terminal column of each column
+  -- the width has room for one terminal column of each column
   pub least-fits : least_total table ≤ w
   least-fits = omega (arith, framed, room.needs.least, paddings_of_needs table (shown_columns table), length-map (shown_columns table) (needs_of table))
 
-  -- and no column takes more than it needs
+  -- no column takes more than it needs
   pub wider-fits : (full : Bool) (steps : Steps) (widths : List ℕ) → IsArrangedBy (room_beside_borders table w) (shown_needs table) full steps widths → wider_total table steps ≤ w
   wider-fits full steps widths arranged = omega (arith, framed, steps_within (room_beside_borders table w) (shown_needs table) full steps widths arranged)
 
--- new columns that keep so much need no more than they need
+-- new columns need at most the needed widths, if they keep at most these
 pub room_for : (w : ℕ) (kept needed : ℕ → ℕ) (table : TableValue) → ((i : ℕ) → max 1 (kept i) ≤ needed i) → AllByRecursion IsNewColumn table.columns → framed_width table.style (by_columns needed table) ≤ w → HasRoom w (with_lower_bounds (by_columns kept table) table)
 room_for w kept needed table within new fits =
     record {
@@ -61,7 +62,7 @@ room_for w kept needed table within new fits =
 
 -- ---- lines between rows
 
--- a border is drawn where one of six lines has it
+-- a border is drawn if one of six lines has it
 fewer : (x : ℕ) (a b c d e f : Bool) → (if a || (b || (c || (d || (false || (f || false))))) then x else 0) ≤ (if a || (b || (c || (d || (e || (f || false))))) then x else 0)
 fewer x true b c d e f = omega arith
 fewer x false true c d e f = omega arith
@@ -87,7 +88,8 @@ pub kept_separated : (has : Bool) (kept : List ℕ) (table : TableValue) → sep
 kept_separated true kept table = refl
 kept_separated false kept table = refl
 
--- what columns take at the least has room for what they are given beforehand, without lines between rows too
+-- a table that fits at its least width has room for the widths that columns get beforehand, also without lines between
+-- rows
 pub room_for_given : (w level : ℕ) (has : Bool) (whole : Wanted) (table : TableValue) → AllByRecursion IsNewColumn table.columns → least_width whole table ≤ w → HasRoom w (separated_table has (with_lower_bounds (by_columns (reserved_width level whole table) table) table))
 room_for_given w level has whole table new fits = by_lines has
   where
@@ -95,7 +97,7 @@ room_for_given w level has whole table new fits = by_lines has
     by_lines true = room_for w (reserved_width level whole table) (width_at_level 8 whole table) table (given_is_shared level 8 whole table) new fits
     by_lines false = room_for w (reserved_width level whole table) (width_at_level 8 whole table) (separated_table false table) (given_is_shared level 8 whole table) new (still_fits w false table (by_columns (width_at_level 8 whole table) table) fits)
 
--- the words that are kept have room
+-- the words that are kept whole have room
 pub most-least : (w : ℕ) (whole : Wanted) (table : TableValue) → has_room (Some w) whole table ≡ true → least_width (most_wanted w whole table) table ≤ w
 most-least w whole table room = leb-true _ w (most_fit (λ (level : ℕ) (own : Wanted). nat_le (shared_width level own table) w) w whole room)
 
@@ -103,7 +105,7 @@ pub field_separated : (has : Bool) (field : ℕ) (table : TableValue) → separa
 field_separated true field table = refl
 field_separated false field table = refl
 
--- names and a field that may be broken beside them fit a width, without lines between rows too
+-- names, and a field that may be broken beside them, fit the width, also without lines between rows
 pair_still_fits : (w : ℕ) (has : Bool) (table : TableValue) (names field : ℕ) → field ≤ room_beside names (room_for_two w table.style) → room_for_two w table.style < min names field + field
     → framed_width (separated_table has table).style (needed_by_names names ∷ max 1 field ∷ []) ≤ w
 pair_still_fits w has table names field below broken = by_lines has
@@ -115,7 +117,7 @@ pair_still_fits w has table names field below broken = by_lines has
     by_lines true = own
     by_lines false = omega (arith, own, fewer_borders table.style 2)
 
--- a table of names and fields, whose fields have a width, needs no more than that and what the names need
+-- A table of names and fields needs at most the width of the fields and the width that the names need.
 second_room : (w field names : ℕ) (table : TableValue) → AllByRecursion IsNewColumn table.columns → length table.columns ≤ 2 → framed_width table.style (needed_by_names names ∷ max 1 field ∷ []) ≤ w
     → (with_second field table.columns ≡ table.columns) ⊎ HasRoom w (with_field_width field table)
 second_room w field names table new as_many fits = by_columns table.columns refl new as_many
@@ -135,7 +137,7 @@ second_room w field names table new as_many fits = by_columns table.columns refl
 -- ---- tables that are drawn
 
 module _ (look : Look) (Q : RowValue → Type 0) (content : SelectedValue) where
-  -- a table that is built of rows that Q holds of, some of whose columns have a width of their own, where there is room
+  -- a table that is built of rows with property Q; some of its columns have their own width if there is room
   pub record IsDrawn (table : TableValue) : Type 0 where
     pub plain : TableValue
     pub known : Built look Q content plain
@@ -145,26 +147,26 @@ module _ (look : Look) (Q : RowValue → Type 0) (content : SelectedValue) where
     pub no_width : look.width ≡ None → columns ≡ plain.columns
     pub room : (w : ℕ) → look.width ≡ Some w → (columns ≡ plain.columns) ⊎ HasRoom w table
 
-  -- one without such columns
+  -- a table without such columns
   pub drawn_plain : (table : TableValue) → Built look Q content table → IsDrawn table
   drawn_plain table known =
       record { plain = table; known = known; columns = table.columns; is_plain = refl; padded = padded_columns [] table.columns (recursion_from_All IsNewColumn table.columns known.columns); no_width = λ is. refl; room = λ w is. inl refl }
 
   module _ (table : TableValue) (drawn : IsDrawn table) where
-    -- it looks as is wanted
+    -- the table has the settings of the look
     pub drawn-is : table ≡ record (empty_table look) { columns = table.columns; header = table.header; rows = table.rows }
     drawn-is =
         subst (λ (t : TableValue). t ≡ record (empty_table look) { columns = t.columns; header = t.header; rows = t.rows }) (sym drawn.is_plain)
         (ap (λ (t : TableValue). record t { columns = drawn.columns }) drawn.known.is)
 
-    -- its rows are those
+    -- its measured rows have property R
     pub measured-drawn : (R : RowValue → Type 0) → ((row : RowValue) → Q row → R (row_measured look.has_sequences row)) → All R (measured_rows table)
     measured-drawn R gives = subst (All R) (sym (ap measured_rows drawn.is_plain)) (measured_known (empty_table look) Q drawn.plain drawn.known R gives)
 
     pub rows-drawn : look.has_sequences ≡ false → All Q (measured_rows table)
     rows-drawn none = subst (All Q) (sym (ap measured_rows drawn.is_plain)) (rows_known (empty_table look) Q drawn.plain drawn.known none)
 
-    -- its columns have paddings, and no delimiter
+    -- its columns have the paddings of new columns, and no delimiter
     pub columns-drawn : All (λ (p : ℕ × ColumnValue). IsPaddedColumn p.1) (shown_columns table)
     columns-drawn =
         subst (λ (t : TableValue). All (λ (p : ℕ × ColumnValue). IsPaddedColumn p.1) (shown_columns t)) (sym drawn.is_plain)
@@ -176,7 +178,7 @@ module _ (look : Look) (Q : RowValue → Type 0) (content : SelectedValue) where
         All-weaker (λ (p : ℕ × ColumnValue). IsPaddedColumn p.1) (λ (p : ℕ × ColumnValue). 1 ≤ p.1.padding.0)
         (λ p own. let one : p.1.padding.0 ≡ 1 = ap (λ (x : ℕ × ℕ). x.0) own.padding in omega (arith, one)) (shown_columns table) columns-drawn
 
-    -- and no constraint, where none has a width of its own
+    -- its columns have no constraint if none has its own width
     pub unconstrained-drawn : drawn.columns ≡ drawn.plain.columns → NoConstraints table
     unconstrained-drawn none =
         subst NoConstraints (sym (drawn.is_plain ∙ ap (λ (columns : List ColumnValue). record drawn.plain { columns = columns }) none)) (unconstrained (empty_table look) Q drawn.plain drawn.known)

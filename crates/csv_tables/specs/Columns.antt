@@ -1,4 +1,4 @@
--- Which columns are drawn, and how their cells are aligned.
+-- The columns that are drawn, and the alignment of their cells.
 -- Source: this library's own.
 use Rattle.std.specs.Prelude.{ℕ, Bool, ◌+◌, ◌==◌, List, Option, Some, None, decimal, fold, length, map, max, min, unwrap_or, if◌then◌else◌}
 use Rattle.std.specs.List.{list_any}
@@ -17,20 +17,20 @@ use Rattle.csv_records.specs.Cleaning.{visible_of}
 use Rattle.csv_records.specs.Longer.{filled_len}
 use Rattle.csv_tables.specs.declared.options.ColumnPlan.{ColumnPlan}
 
--- positions of columns, counted from 0: those that are drawn, in their order, and those that stand
--- at the right and at the left
+-- positions of columns, counted from 0: the columns that are drawn, in their order, the
+-- right-aligned columns, and the left-aligned ones
 pub record ColumnsValue : Type 0 where
   pub drawn : List ℕ
   pub right : List ℕ
   pub left : List ℕ
 
--- the greatest number of fields of the names and the rows
+-- the greatest number of fields among the names and the rows
 abbrev pub count_of : List Text → List (List Text) → ℕ
 count_of names rows =
     fold (λ (n : ℕ) (fields : List Text). max n (length fields)) (length names) rows
 
--- how many of these columns are drawn if none is chosen: those up to the last that has a name or a
--- field that isn't empty, and at least one
+-- the number of columns up to the last that has a name or a field that isn't empty, but at least
+-- one, if there are columns
 abbrev pub filled_count : List Text → List (List Text) → ℕ
 filled_count names rows =
     min (count_of names rows)
@@ -40,7 +40,7 @@ filled_count names rows =
 abbrev pub seen : Bool → List Text → List Text
 seen keeps_sequences fields = map (visible_of keeps_sequences) fields
 
--- the alignment of a column: that which was chosen for it, else at the right where its fields are
+-- the alignment of a column: the one that was chosen for it, or else right if its fields are
 -- numbers
 abbrev pub alignment_for : List ℕ → List ℕ → Bool → ℕ → Option CellAlignment
 alignment_for right left has_numbers position =
@@ -49,11 +49,11 @@ alignment_for right left has_numbers position =
     else if has_numbers then Some Right
     else None
 
--- the decimal mark of a column: at the right, where its fields have one
+-- the decimal mark of a column, if the column is right-aligned and its fields have one
 abbrev pub points_at : Option CellAlignment → Option ColumnMarks → Option Points
 points_at alignment marks = if is_right alignment then points_in marks else None
 
--- the column at a position, whose fields say this
+-- the plan of the column at a position, whose fields have this summary
 abbrev pub column_at : ColumnsValue → ColumnSummary → ℕ → ColumnPlan
 column_at columns summary position =
     record {
@@ -67,12 +67,12 @@ column_at columns summary position =
       is_nowrap = summary.are_nowrap;
     }
 
--- the columns that are drawn; the rows are as they are seen
+-- the plans of the columns that are drawn; the rows have their visible text
 abbrev pub drawn_columns : ColumnsValue → List (List Text) → List ColumnPlan
 drawn_columns columns rows =
     map (λ (p : ℕ). column_at columns (summary_of (column_fields rows p)) p) columns.drawn
 
--- this name of the column at a position, or the column's number, counted from 1, if it has none
+-- the name of the column at a position, or the column's number, counted from 1, if it has no name
 abbrev pub name_or_number : Option Text → ℕ → Text
 name_or_number name position = unwrap_or name (decimal (position + 1))
 

@@ -1,4 +1,4 @@
--- Private: rows of records before they are made.
+-- Private: the rows of records that haven't been made yet.
 -- Source: this library's own.
 use Rattle.std.specs.Prelude.{ℕ, ◌+◌, ◌≡◌, ◌⊎◌, Bool, true, false, List, [], ◌∷◌, ◌++◌, Option, Some, None, chars, length, map, slice_get, unwrap_or, if◌then◌else◌}
 use Rattle.std.specs.List.{list_any}
@@ -17,7 +17,7 @@ use Rattle.csv_tables.specs.declared.options.ColumnPlan.{ColumnPlan}
 use Rattle.csv_tables.specs.declared.options.Look.{Look}
 use Rattle.csv_tables.specs.declared.rows.RecordRows.{RecordRows}
 
--- what the row of the record at a place shows
+-- the texts that the row of the record at a place shows
 abbrev pub shown_by : RecordRows → ℕ → List Text → List Shown
 shown_by rows at fields =
     shown_in rows.look rows.is_aligned rows.selected.is_numbered
@@ -30,7 +30,7 @@ field_cell look is_bold is_aligned settings fields column =
     dressed (slice_get settings column.position)
     (with_weight is_bold (cell_for look column.alignment (text_in look is_aligned column fields)))
 
--- those of some columns
+-- the cells of the fields of columns
 abbrev pub field_cells : Look → Bool → Bool → List CellSettingsValue → List ColumnPlan
     → List Text → List CellValue
 field_cells look is_bold is_aligned settings columns fields =
@@ -40,23 +40,23 @@ field_cells look is_bold is_aligned settings columns fields =
 abbrev pub settings_by : RecordRows → ℕ → Option RowSettingsValue
 settings_by rows at = slice_get rows.settings.rows (at + 1)
 
--- its row without settings
+-- the row of the record at a place, without settings
 abbrev pub plain_by : RecordRows → ℕ → List Text → RowValue
 plain_by rows at fields =
     row_for rows.look rows.is_aligned rows.selected.is_numbered rows.selected.columns
     (at + 1, fields)
 
--- a row with settings, if it has some
+-- a row with its settings, if it has any
 abbrev pub dressed_by : SelectedValue → Option RowSettingsValue → RowValue → RowValue
 dressed_by content None row = row
 dressed_by content (Some own) row = dressed_row content own row
 
--- its row
+-- the row of the record at a place
 abbrev pub made_by : RecordRows → ℕ → List Text → RowValue
 made_by rows at fields =
     dressed_by rows.selected (settings_by rows at) (plain_by rows at fields)
 
--- the fields of a record, each with the name of its column
+-- the rows of an expanded record: each field beside the name of its column
 abbrev pub pairs_by : RecordRows → List Text → List RowValue
 pairs_by rows fields =
     pairs_of rows.look rows.selected.columns (unwrap_or rows.selected.names []) fields
@@ -66,12 +66,12 @@ abbrev pub rows_at : RecordRows → ℕ → List Text → List RowValue
 rows_at rows at fields =
     if rows.is_expanded then pairs_by rows fields else made_by rows at fields ∷ []
 
--- those of records from a place on
+-- the rows of records, from a place on
 abbrev pub rows_from : RecordRows → ℕ → List (List Text) → List RowValue
 rows_from rows at [] = []
 rows_from rows at (fields ∷ left) = rows_at rows at fields ++ rows_from rows (at + 1) left
 
--- their table without rows, before its columns grow
+-- the table of records without its rows, before its columns grow
 abbrev pub headed_by : RecordRows → TableValue
 headed_by rows =
     if rows.is_expanded
@@ -80,7 +80,7 @@ headed_by rows =
     (headed_table rows.look rows.selected.is_numbered rows.selected.columns
     rows.selected.names)
 
--- their table
+-- the table of records
 abbrev pub table_by : RecordRows → TableValue
 table_by rows =
     if rows.is_expanded
@@ -88,21 +88,21 @@ table_by rows =
     else dressed_table rows.selected rows.settings.rows
     (rows_table rows.look rows.is_aligned rows.selected)
 
--- what a cell gives as it is measured, 0 where there is none
+-- the value of `f` for a cell as it is measured, or 0 without a cell
 abbrev pub measured_at : TableValue → (CellValue → ℕ) → Option CellValue → ℕ
 measured_at table f None = 0
 measured_at table f (Some cell) = f (measured_cell table cell)
 
--- the greatest that the cells of some rows give at a position
+-- the greatest value of `f` for the cells of rows at a position
 abbrev pub greatest_at : TableValue → (CellValue → ℕ) → List RowValue → ℕ → ℕ
 greatest_at table f rows i = greatest (map (measured_at table f) (cells_at rows i))
 
--- how many cells the longest of some rows has
+-- the greatest number of cells of a row
 abbrev pub most_cells : List RowValue → ℕ
 most_cells rows = greatest (map (λ (row : RowValue). length row.cells) rows)
 
--- no spaces and no backslashes are added to a clean field with so many spaces behind it, and it
--- isn't emptied
+-- A cleaned field with `behind` spaces after it is drawn without further spaces and without
+-- backslashes, and isn't emptied.
 abbrev pub IsKept : Look → Text → ℕ → Type 0
 IsKept look field behind =
     (look.is_markdown ≡ false) × ((is_blank field ≡ false) ⊎ (field ++ spaces behind ≡ []))
@@ -111,27 +111,27 @@ IsKept look field behind =
 
 -- ---- drawings
 
--- the part of a table that the fields of a record are, where it has some
+-- the lines of a part of a table with the rows of an expanded record, if it has any
 abbrev pub fields_text : TableValue → List ColumnInfo → List RowValue → Text
 fields_text table infos [] = []
 fields_text table infos (row ∷ rows) =
     terminated_text_of (part_of_drawing table infos true true (row ∷ rows))
 
--- an expanded record: its line, and its fields
+-- an expanded record: its heading, and its fields
 abbrev pub expanded_record : RecordRows → TableValue → List ColumnInfo → ℕ → List Text → Text
 expanded_record rows table infos at fields =
     record_line rows.selected.noun (at + 1) rows.selected.count
     ++ fields_text table infos (pairs_by rows fields)
 
--- expanded records from a place on
+-- the text of expanded records from a place on
 abbrev pub expanded_from : RecordRows → TableValue → List ColumnInfo → ℕ → List (List Text)
     → Text
 expanded_from rows table infos at [] = []
 expanded_from rows table infos at (fields ∷ left) =
     expanded_record rows table infos at fields ++ expanded_from rows table infos (at + 1) left
 
--- what is drawn of records from a place on, above them where that isn't drawn yet, and below them
--- where the last one is among them
+-- the text of the next records from a place on. The lines above them are included if `is_first` is
+-- true, and those below them if `is_last` is true.
 abbrev pub drawn_next : RecordRows → TableValue → List ColumnInfo → ℕ → Bool → Bool
     → List (List Text) → Text
 drawn_next rows table infos at is_first is_last next =
@@ -142,21 +142,21 @@ drawn_next rows table infos at is_first is_last next =
 
 -- ---- tables that are drawn
 
--- contents are those of rows, or of expanded records
+-- `contents` are those of rows, or of expanded records
 pub record AreContentsOf (is_expanded : Bool) (look : Look) (content : SelectedValue)
     (contents : LazyTableValue) : Type 0 where
   pub look_is : contents.rows.look ≡ look
   pub selected_is : contents.rows.selected ≡ content
   pub expanded_is : contents.rows.is_expanded ≡ is_expanded
 
--- contents are those of a table that is drawn, with lines between rows or without
+-- `contents` are those of a table that is drawn, with lines between rows or without
 pub record AreDrawnAs (is_expanded : Bool) (look : Look) (content : SelectedValue)
     (table : TableValue) (contents : LazyTableValue) : Type 0 where
   pub are_contents : AreContentsOf is_expanded look content contents
   pub separated :
       AreRowsSeparated (separators_in is_expanded look.separators) table contents.table
 
--- whether expanded or not as it is wanted
+-- records are expanded or not as the settings and the look require
 pub record AreDrawnContents (settings : SettingsValue) (look : Look)
     (content : SelectedValue) (contents : LazyTableValue) : Type 0 where
   pub is_expanded : Bool

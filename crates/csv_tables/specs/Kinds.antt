@@ -1,4 +1,4 @@
--- Whether the fields of a column are numbers.
+-- Columns whose fields are numbers.
 -- Source: this library's own.
 use Rattle.std.specs.Prelude.{Bool, true, false, List, if◌then◌else◌}
 use Rattle.std.specs.List.{list_any}
@@ -7,7 +7,7 @@ use Rattle.csv_records.specs.Number.{is_neutral, is_number}
 use Rattle.csv_tables.specs.declared.summary.FieldKind.{FieldKind}
 use Rattle.csv_tables.specs.declared.summary.FieldKind.TheVariants.{Number, Neutral, Other}
 
--- what a field says of its column; a number says more than being neutral
+-- the kind of a field; a number that is also neutral is a number
 abbrev pub kind_of : Text → FieldKind
 kind_of field = if is_number field then Number else if is_neutral field then Neutral else Other
 
@@ -21,13 +21,13 @@ is_other_kind Number = false
 is_other_kind Neutral = false
 is_other_kind Other = true
 
--- what two fields say of one column
+-- the kind of two fields of one column together
 abbrev pub joined_kind : FieldKind → FieldKind → FieldKind
 joined_kind Neutral kind = kind
 joined_kind Number kind = if is_other_kind kind then Other else Number
 joined_kind Other kind = Other
 
--- what the fields of a column say together
+-- the kind of all fields of a column together
 abbrev pub column_kind : List Text → FieldKind
 column_kind fields =
     if list_any (λ field. is_other_kind (kind_of field)) fields then Other

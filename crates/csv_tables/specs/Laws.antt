@@ -1,4 +1,4 @@
--- What is so of every output.
+-- Properties of every output.
 -- Source: this library's own.
 use Rattle.std.specs.Prelude.{◌≡◌, ◌⊎◌, ℕ, ◌+◌, ◌≤◌, Bool, true, false, List, ◌++◌, Option, Some, None, All, Contains, flat_map, length, map}
 use Rattle.std.specs.List.{range_with_len}
@@ -27,17 +27,17 @@ use Rattle.csv_tables.specs.declared.options.Layout.{Layout}
 
 -- ---- decimal points
 
--- a text as it is, or with spaces behind it
+-- `drawn` is a text with spaces after it, or without
 abbrev pub HasSpacesBehind : Text → Text → Type 0
 HasSpacesBehind text drawn = (n : ℕ) × (drawn ≡ text ++ spaces n)
 
--- a column shows the field of a record, with nothing but spaces behind it
+-- a column shows the field of a record unchanged, except for spaces after it
 abbrev pub SpacesAloneAreAdded : Look → Bool → ColumnPlan → List Text → Type 0
 SpacesAloneAreAdded look is_aligned column fields =
     HasSpacesBehind (field_or_blank fields column.position) (text_in look is_aligned column fields)
 
--- in a column with a decimal mark the fraction of each field and the spaces behind it are as long
--- as the longest fraction; a field that says nothing has neither
+-- In a column with a decimal mark, the fraction of each field and the spaces after it are together
+-- as long as the longest fraction. Neutral fields are exempt.
 abbrev pub MarksStandBelow : List Text → Type 0
 MarksStandBelow fields =
     (points : Points) → points_of fields ≡ Some points
@@ -47,12 +47,12 @@ MarksStandBelow fields =
 
 -- ---- lines
 
--- an expanded record: its own line, and some lines below it
+-- an expanded record: its heading, and some lines below it
 abbrev pub numbered_lines : SelectedValue → (ℕ → List Text) → ℕ → Text
 numbered_lines content parts at =
     record_line content.noun (at + 1) content.count ++ terminated_text_of (parts at)
 
--- lines are those of a text; or, expanded, such lines alone stand below each record's own line
+-- These are the lines of a text. Of expanded records, only such lines are below each heading.
 abbrev pub HasLines : Bool → SelectedValue → List Text → Text → Type 0
 HasLines false content lines text = AreLinesOf text lines
 HasLines true content lines text =
@@ -60,7 +60,7 @@ HasLines true content lines text =
     × (text
     ≡ flat_map (numbered_lines content parts) (range_with_len 0 (length content.rows)))
 
--- an output has these lines, before the line on records that aren't drawn
+-- an output has these lines, before the note about records that aren't drawn
 pub record IsOutputWith (counted : Option ℕ) (layout : Layout) (records : List (List Text))
     (output : Text) (lines : List Text) : Type 0 where
   pub content : SelectedValue
@@ -82,32 +82,33 @@ IsDrawnTable look content table =
 
 -- ---- what is visible of lines
 
--- lines are seen as they are written, where nothing is in bold; or without their sequences, where
--- no control character stands beside these
+-- Conditions for seeing lines. Lines with their sequences are seen as they are written if nothing
+-- is bold. Without sequences they are seen if the style has no control characters, and all fields
+-- are UTF-8.
 abbrev pub AreSeen : Bool → Look → List (List Text) → Type 0
 AreSeen false look records = look.has_bold_header ≡ false
 AreSeen true look records = IsHarmlessStyle look.style × All AllText records
 
--- lines are seen so, they end where line feeds are, and no sequence of a field counts nothing
+-- lines are seen in this way, they end only at line feeds, and sequences of fields aren't kept
 pub record ArePlainLines (visible : Bool) (look : Look) (records : List (List Text)) : Type 0 where
   pub seen : AreSeen visible look records
   pub unbroken : IsStyleWithout 0x0A look.style
   pub no_sequences : look.has_sequences ≡ false
 
--- lines as they are seen
+-- the visible text of lines
 abbrev pub seen_lines : Bool → List Text → List Text
 seen_lines visible lines = map (visible_of visible) lines
 
 -- ---- straight edges
 
--- P holds of each field as it is drawn, cut at its line feeds
+-- P holds for each text line of each field as it is drawn
 abbrev pub EachText : (Text → Type 0) → Look → List (List Text) → Type 0
 EachText P look records =
     All (λ (fields : List Text). All
     (λ (field : Text). All P (plain_cell (field_text look field)).text_lines) fields) records
 
--- the lines of an output, as they are seen, take the same number of terminal columns each; and
--- where that is without their sequences, no control character is visible of them
+-- The visible lines of an output take the same number of terminal columns each. Without their
+-- sequences, no control character is visible in them.
 pub record IsStraightOutput (visible : Bool) (counted : Option ℕ) (layout : Layout)
     (records : List (List Text)) (output : Text) : Type 0 where
   pub lines : List Text
@@ -115,11 +116,11 @@ pub record IsStraightOutput (visible : Bool) (counted : Option ℕ) (layout : La
   pub equally_wide : AreEquallyWide (seen_lines visible lines)
   pub clear : visible ≡ true → All HasNoControl (seen_lines visible lines)
 
--- no text is cut, or none has U+FE01 directly beside U+FE0E or U+FE0F
+-- no text is cut by height, or no text has U+FE01 directly beside U+FE0E or U+FE0F
 abbrev pub CanBeCut : Look → List (List Text) → Type 0
 CanBeCut look records = (look.max_height ≡ None) ⊎ EachText SelectorsAgree look records
 
--- so it is where no width is kept to, for texts of every script
+-- an output without a set width is straight, for texts of every script
 abbrev pub WholeOutputIsStraight : Bool → Option ℕ → Layout → List (List Text) → Text → Type 0
 WholeOutputIsStraight visible counted layout records output =
     IsOneColumnStyle layout.look.style → ArePlainLines visible layout.look records
@@ -128,14 +129,14 @@ WholeOutputIsStraight visible counted layout records output =
     → RendersRecords counted layout records output
     → IsStraightOutput visible counted layout records output
 
--- for Markdown whatever the look asks for besides
+-- an output for Markdown is straight, whatever else the look requires
 abbrev pub MarkdownOutputIsStraight : Option ℕ → Layout → List (List Text) → Text → Type 0
 MarkdownOutputIsStraight counted layout records output =
     layout.look.is_markdown ≡ true → EachText (λ text. measure text ≤ 65535) layout.look records
     → RendersRecords counted layout records output
     → IsStraightOutput false counted layout records output
 
--- under every width, where no character takes more than one terminal column
+-- under every width an output is straight if no character takes more than one terminal column
 abbrev pub NarrowOutputIsStraight : Bool → Option ℕ → Layout → List (List Text) → Text → Type 0
 NarrowOutputIsStraight visible counted layout records output =
     layout.look.is_markdown ≡ false → IsOneColumnStyle layout.look.style
@@ -150,7 +151,7 @@ CharactersFitEachWidth counted layout records =
     → selected_of counted layout records ≡ content → IsDrawnTable layout.look content table
     → IsArranged table widths → EachCell CharactersFitColumn table widths
 
--- and under every width, where each character of each text fits its column
+-- under every width an output is straight if each character of each text fits its column
 abbrev pub FittingOutputIsStraight : Bool → Option ℕ → Layout → List (List Text) → Text → Type 0
 FittingOutputIsStraight visible counted layout records output =
     layout.look.is_markdown ≡ false → IsOneColumnStyle layout.look.style

@@ -1,4 +1,4 @@
--- Columns that have paddings, and least and greatest widths of their own. Widths are terminal
+-- Columns with their own paddings, least widths and greatest widths. Widths are counted in terminal
 -- columns.
 -- Source: this library's own.
 use Rattle.std.specs.Prelude.{ℕ, zero, suc, ◌+◌, ◌==◌, Bool, ◌||◌, ◌&&◌, true, false, not, List, [], ◌∷◌, Option, Some, None, length, map, max, min, nat_le, nat_lt, option_map, slice_index, unwrap_or, if◌then◌else◌}
@@ -14,7 +14,7 @@ use Rattle.csv_tables.specs.NoWrap.{Wanted, by_columns, greatest_level, has_room
 use Rattle.csv_tables.specs.declared.limits.ColumnLimits.{ColumnLimits}
 use Rattle.csv_tables.specs.declared.settings.ColumnSettings.{ColumnSettings}
 
--- a column that has nothing of its own
+-- a column without settings
 abbrev pub unset : ColumnSettings
 unset = record { padding = (1, 1); least = None; greatest = None; is_centered = false }
 
@@ -22,11 +22,11 @@ unset = record { padding = (1, 1); least = None; greatest = None; is_centered = 
 abbrev pub settings_at : List ColumnSettings → ℕ → ColumnSettings
 settings_at settings position = slice_index_or settings position unset
 
--- the least greatest width: the least width, but at least 1
+-- the lower bound of a column's greatest width: its least width, but at least 1
 abbrev pub least_greatest : ColumnSettings → ℕ
 least_greatest settings = max 1 (unwrap_or settings.least 0)
 
--- the widths that the texts of such a column may have
+-- the limits of a column's content width
 abbrev pub limits_of : ColumnSettings → Bool → ColumnLimits
 limits_of settings has_points =
     record {
@@ -36,11 +36,11 @@ limits_of settings has_points =
       has_points = has_points;
     }
 
--- those of a column that has nothing of its own
+-- the limits of a column without settings
 abbrev pub no_limits : ColumnLimits
 no_limits = limits_of unset false
 
--- those of the column at a place
+-- the limits of the column at a place
 abbrev pub limits_at : List ColumnLimits → ℕ → ColumnLimits
 limits_at limits i = slice_index_or limits i no_limits
 
@@ -53,7 +53,7 @@ padded (own ∷ limits) [] = []
 padded (own ∷ limits) (column ∷ columns) =
     record column { padding = own.padding } ∷ padded limits columns
 
--- the column at a place with its padding
+-- the columns, of which the one at a place has this padding
 abbrev pub padded_at : ℕ → ℕ × ℕ → List ColumnValue → List ColumnValue
 padded_at i padding [] = []
 padded_at zero padding (column ∷ columns) = record column { padding = padding } ∷ columns
@@ -64,12 +64,12 @@ with_paddings limits table = record table { columns = padded limits table.column
 
 -- ---- widths
 
--- a content, no more than the greatest width and no less than the least one
+-- a content width, at most the greatest width and at least the least width
 abbrev pub bounded : ColumnLimits → ℕ → ℕ
 bounded limits content =
     max limits.least (unwrap_or (option_map (min content) limits.greatest) content)
 
--- both paddings together
+-- the sum of both paddings
 abbrev pub both_paddings : ColumnLimits → ℕ
 both_paddings limits = limits.padding.0 + limits.padding.1
 
@@ -77,7 +77,7 @@ both_paddings limits = limits.padding.0 + limits.padding.1
 abbrev pub taken : ColumnLimits → ℕ → ℕ
 taken limits content = both_paddings limits + bounded limits content
 
--- the width of a table of rows whose columns share it up to a level
+-- the width of a table of rows, whose columns get content widths up to a level
 abbrev pub bounded_width : List ColumnLimits → ℕ → Wanted → TableValue → ℕ
 bounded_width [] level wanted table = shared_width level wanted table
 bounded_width (own ∷ limits) level wanted table =
@@ -85,31 +85,31 @@ bounded_width (own ∷ limits) level wanted table =
     + sum (by_columns (λ (i : ℕ).
     taken (limits_at (own ∷ limits) i) (width_at_level level wanted table i)) table)
 
--- whether a width that is kept has room for the least width of the table
+-- true if the width has room for the least width of the table
 abbrev pub has_room_within : List ColumnLimits → Option ℕ → Wanted → TableValue → Bool
 has_room_within [] width wanted table = has_room width wanted table
 has_room_within (own ∷ limits) None wanted table = true
 has_room_within (own ∷ limits) (Some width) wanted table =
     nat_le (bounded_width (own ∷ limits) 8 wanted table) width
 
--- the greatest level for which a width has room
+-- the greatest level for which the width has room
 abbrev pub level_within : List ColumnLimits → ℕ → Wanted → TableValue → ℕ
 level_within limits width wanted table =
     greatest_level (λ level. nat_le (bounded_width limits level wanted table) width) width
 
--- the words that are kept under a width
+-- the words that are kept whole in a width
 abbrev pub most_within : List ColumnLimits → ℕ → Wanted → TableValue → Wanted
 most_within limits width wanted table =
     with_most_words (λ (level : ℕ) (own : Wanted).
     nat_le (bounded_width limits level own table) width) width wanted
 
--- what columns are given beforehand in a width that has room: what they need to be whole
+-- the content widths that columns get beforehand to stay whole, if the width has room
 abbrev pub given_with : List ColumnLimits → ℕ → Wanted → TableValue → List ℕ
 given_with limits width wanted table =
     by_columns (reserved_width (level_within limits width wanted table) wanted table) table
 
--- so they are, with the words that are kept, if a width has room, and nothing if it hasn't; their
--- contents, if no width is kept
+-- the same for the most words that fit, or nothing without room; without a width, the content
+-- widths of the columns
 abbrev pub given_within : List ColumnLimits → Option ℕ → Wanted → TableValue → List ℕ
 given_within limits None wanted table = max_content_widths table
 given_within limits (Some width) wanted table =
@@ -117,21 +117,21 @@ given_within limits (Some width) wanted table =
     then given_with limits width (most_within limits width wanted table) table
     else []
 
--- the width of a column whose texts have this width, at most 65535
+-- the width of a column with this content width and its paddings, at most 65535
 abbrev pub with_both_paddings : ColumnLimits → ℕ → ℕ
 with_both_paddings limits width = min 65535 (width + both_paddings limits)
 
--- the least width of a column that is given this content; of none 0
+-- the lower boundary of the width of a column that is given this content width, or 0 for none
 abbrev pub lower_limit : ColumnLimits → ℕ → ℕ
 lower_limit limits given =
     if nat_lt 0 (bounded limits given) then with_both_paddings limits (bounded limits given) else 0
 
--- a column has one width, or widths of a range
+-- the constraint for one width, or for a range of widths
 abbrev pub between : ℕ → ℕ → ColumnConstraint
 between lower upper =
     if lower == upper then Absolute (Fixed upper) else Boundaries (Fixed lower) (Fixed upper)
 
--- the constraint of a column that is given this content
+-- the constraint of a column that is given this content width
 abbrev pub limit_for : ColumnLimits → ℕ → ColumnConstraint
 limit_for limits given =
     unwrap_or
@@ -139,7 +139,7 @@ limit_for limits given =
     between (lower_limit limits given) (with_both_paddings limits greatest)) limits.greatest)
     (LowerBoundary (Fixed (lower_limit limits given)))
 
--- those of columns
+-- the constraints of columns
 abbrev pub limits_for : List ColumnLimits → List ℕ → List ColumnConstraint
 limits_for [] given = map lower_bound given
 limits_for (own ∷ limits) given =
@@ -151,12 +151,12 @@ abbrev pub with_limits : List ColumnLimits → List ℕ → TableValue → Table
 with_limits limits given table =
     record table { columns = constrained (limits_for limits given) table.columns }
 
--- of columns that are given nothing those that have limits are constrained
+-- the same for columns that are given nothing; without limits no column is constrained
 abbrev pub with_own_limits : List ColumnLimits → TableValue → TableValue
 with_own_limits [] table = table
 with_own_limits (own ∷ limits) table = with_limits (own ∷ limits) [] table
 
--- the table with the widths that its columns may have
+-- a table with the range of widths of each column
 abbrev pub with_widths : List ColumnLimits → Option ℕ → Wanted → TableValue → TableValue
 with_widths [] width wanted table = with_min_widths width wanted table
 with_widths (own ∷ limits) width wanted table =
@@ -164,34 +164,34 @@ with_widths (own ∷ limits) width wanted table =
 
 -- ---- decimal points
 
--- whether texts of this width are no wider than a greatest width
+-- true if texts of this width are at most as wide as a greatest width
 abbrev pub is_within : Option ℕ → ℕ → Bool
 is_within None content = true
 is_within (Some greatest) content = nat_le content greatest
 
--- whether the texts of a column whose decimal points may be lined up aren't wrapped
+-- true unless the column has decimal points to align and its texts would be wrapped
 abbrev pub holds_points : List ColumnLimits → TableValue → ℕ → Bool
 holds_points limits table i =
     not (limits_at limits i).has_points
     || is_within (limits_at limits i).greatest (column_content_width table i)
 
--- so those of each column
+-- true if this holds for each column
 abbrev pub hold_points : List ColumnLimits → TableValue → Bool
 hold_points limits table = list_all (holds_points limits table) (range_with_len 0 (length limits))
 
 -- ---- tables
 
--- the greatest width of the column at a place, which is no greater than that of its longest line
+-- the greatest width of the column at a place, at most the width of its longest line
 abbrev pub reached_greatest : TableValue → ℕ → ColumnLimits → ℕ → ℕ
 reached_greatest table i limits greatest =
     max (max 1 limits.least) (min 65535 (longest_line_at table i greatest))
 
--- limits with such greatest widths: a column isn't wider than what is drawn in it
+-- the limits with such a greatest width: a column isn't wider than its longest line
 abbrev pub reached : TableValue → ℕ → ColumnLimits → ColumnLimits
 reached table i limits =
     record limits { greatest = option_map (reached_greatest table i limits) limits.greatest }
 
--- those of all columns
+-- these limits for all columns
 abbrev pub reached_limits : TableValue → List ColumnLimits → List ColumnLimits
 reached_limits table limits =
     map (λ (i : ℕ). reached table i (limits_at limits i)) (range_with_len 0 (length limits))
@@ -202,7 +202,7 @@ limited_by limits width wanted table =
     with_widths (reached_limits (with_paddings limits table) limits) width wanted
     (with_paddings limits table)
 
--- whether there is room for such a table: for the spaces that line up decimal points, and for its
+-- true if there is room for such a table: for the spaces that align decimal points, and for its
 -- width
 abbrev pub has_room_in : List ColumnLimits → Option ℕ → Bool → Wanted → TableValue → Bool
 has_room_in limits width is_aligned wanted table =

@@ -1,10 +1,10 @@
--- What is read back from the lines of an output for Markdown.
+-- Fields that are read back from the lines of an output for Markdown.
 -- Source: this library's own; CommonMark for backslashes, GitHub for tables.
 use Rattle.std.specs.Prelude.{ℕ, Bool, false, not, ◌==◌, ◌&&◌, List, [], ◌∷◌, ◌++◌, if◌then◌else◌}
 use Rattle.csv_tables.specs.Markdown.{unescaped}
 
--- the parts of a line that goes on within a part: a bar ends one, unless it stands after a
--- backslash that isn't itself after one
+-- the parts of a line of which `part` has been read. A bar ends a part, unless it is escaped: it
+-- follows a backslash that isn't escaped.
 abbrev pub parts_from : Bool → List ℕ → List ℕ → List (List ℕ)
 parts_from is_escaped part [] = part ∷ []
 parts_from is_escaped part (c ∷ rest) =
@@ -16,7 +16,7 @@ parts_from is_escaped part (c ∷ rest) =
 abbrev pub parts_between_bars : List ℕ → List (List ℕ)
 parts_between_bars line = parts_from false [] line
 
--- a character before others, unless it is a space before none
+-- a character before others, or nothing for a space before none
 abbrev pub before_spaces : ℕ → List ℕ → List ℕ
 before_spaces c [] = if c == 0x20 then [] else c ∷ []
 before_spaces c (d ∷ rest) = c ∷ d ∷ rest
@@ -26,15 +26,15 @@ abbrev pub without_last_spaces : List ℕ → List ℕ
 without_last_spaces [] = []
 without_last_spaces (c ∷ rest) = before_spaces c (without_last_spaces rest)
 
--- without those at their start
+-- characters without the spaces at their start
 abbrev pub without_first_spaces : List ℕ → List ℕ
 without_first_spaces [] = []
 without_first_spaces (c ∷ rest) = if c == 0x20 then without_first_spaces rest else c ∷ rest
 
--- without both
+-- characters without the spaces at both ends
 abbrev pub without_outer_spaces : List ℕ → List ℕ
 without_outer_spaces cs = without_first_spaces (without_last_spaces cs)
 
--- what is read of a part
+-- the characters that are read from a part
 abbrev pub read_part : List ℕ → List ℕ
 read_part part = without_outer_spaces (unescaped part)

@@ -1,11 +1,11 @@
--- Private: drawings of which a piece is ready, and others are made later.
+-- Private: drawings whose first piece is ready, and whose other pieces are made later.
 -- Source: this library's own.
 use Rattle.std.specs.Prelude.{[], ◌++◌, Option, Some, None, true, drop, string_bytes}
 use Rattle.comfy_parts.specs.Text.{Text}
 use Rattle.csv_tables.specs.Contents.{drawn_next}
 use Rattle.csv_tables.specs.declared.drawn.Remaining.{Remaining}
 
--- what is left of a drawing
+-- the rest of a drawing, with the note at its end
 abbrev pub rest_of : Option Remaining → Text
 rest_of None = []
 rest_of (Some left) =

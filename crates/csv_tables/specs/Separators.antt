@@ -1,4 +1,4 @@
--- Private: a table, with the lines between its rows or without them.
+-- Private: a table, with lines between its rows or without them.
 -- Source: this library's own.
 use Rattle.std.specs.Prelude.{◌≡◌, Bool, false}
 use Rattle.comfy_table.specs.TableValue.{TableValue}

@@ -16,22 +16,23 @@ pub record CellSettingsValue : Type 0 where
   pub background : Option Color
   pub attributes : List Attribute
 
--- the settings of a row, and those of its cells by the positions of fields in its record
+-- the settings of a row, and of its cells, which are listed by the positions of fields in the
+-- record
 pub record RowSettingsValue : Type 0 where
   pub max_height : Option ℕ
   pub cells : List CellSettingsValue
 
--- the settings of a table: those of columns by the positions of fields, those of the header, and
--- those of each record
+-- the settings of a table: of columns, which are listed by the positions of fields, of the header,
+-- and of each record
 pub record SettingsValue : Type 0 where
   pub columns : List ColumnSettings
   pub rows : List RowSettingsValue
 
--- a table that has nothing of its own
+-- a table without settings
 abbrev pub no_settings : SettingsValue
 no_settings = record { columns = []; rows = [] }
 
--- a cell with its settings, if it has some: its attributes come after those that it has
+-- a cell with its settings, if it has any: their attributes come after the cell's own
 abbrev pub dressed : Option CellSettingsValue → CellValue → CellValue
 dressed None cell = cell
 dressed (Some own) cell =
@@ -42,18 +43,18 @@ dressed (Some own) cell =
       attributes = cell.attributes ++ own.attributes;
     }
 
--- cells with the settings of their places
+-- cells, each with the settings at its place
 abbrev pub dressed_cells : List (Option CellSettingsValue) → List CellValue → List CellValue
 dressed_cells settings [] = []
 dressed_cells [] (cell ∷ cells) = cell ∷ cells
 dressed_cells (own ∷ settings) (cell ∷ cells) = dressed own cell ∷ dressed_cells settings cells
 
--- the settings of the cells of a row, which are none if the row has no settings
+-- the settings of the cells of a row, or none if the row has no settings
 abbrev pub cell_settings : Option RowSettingsValue → List CellSettingsValue
 cell_settings None = []
 cell_settings (Some own) = own.cells
 
--- how many lines a row has at most, by its settings if they say so, else by the look
+-- the greatest height of a row, by its settings if they have one, or else by the look
 abbrev pub limit_by : Option RowSettingsValue → Look → Option ℕ
 limit_by None look = look.max_height
 limit_by (Some own) look = option_or own.max_height look.max_height

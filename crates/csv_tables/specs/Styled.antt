@@ -1,5 +1,5 @@
 -- Drawings of records whose columns, rows and cells have settings of their own. Without settings
--- each definition computes to the one of `Drawn` that it is made after.
+-- each definition computes to its counterpart in `Drawn`.
 -- Source: this library's own.
 use Rattle.std.specs.Prelude.{ℕ, ◌==◌, Bool, true, false, ◌&&◌, ◌||◌, ◌≡◌, List, [], ◌∷◌, ◌++◌, Option, Some, None, is_some, length, map, max, option_map, slice_get, if◌then◌else◌}
 use Rattle.std.specs.Option.{option_or}
@@ -17,7 +17,7 @@ use Rattle.csv_tables.specs.declared.settings.ColumnSettings.{ColumnSettings}
 use Rattle.csv_tables.specs.declared.options.Layout.{Layout}
 use Rattle.csv_tables.specs.declared.options.Look.{Look}
 
--- a column with its side: in the middle no decimal points are below each other
+-- a column with its alignment; a centred column has no aligned decimal points
 abbrev pub centered : List ColumnSettings → ColumnPlan → ColumnPlan
 centered settings column =
     if (settings_at settings column.position).is_centered
@@ -30,7 +30,8 @@ with_centers settings content =
     then content
     else record content { columns = map (centered settings) content.columns }
 
--- the limits of the columns that are drawn: settings are by the positions of fields in records
+-- the limits of the columns that are drawn; settings are listed by the positions of fields in
+-- records
 abbrev pub column_limits : List ColumnSettings → SelectedValue → List ColumnLimits
 column_limits settings content =
     (if content.is_numbered then no_limits ∷ [] else [])
@@ -43,14 +44,14 @@ limits_in settings content =
 
 -- ---- rows and cells
 
--- the settings of the cells of a row, in their order: that of its number has none
+-- the settings of the cells of a row, in their order; the cell of its number has none
 abbrev pub placed : Bool → List ColumnPlan → List CellSettingsValue
     → List (Option CellSettingsValue)
 placed is_numbered columns cells =
     (if is_numbered then None ∷ [] else [])
     ++ map (λ (column : ColumnPlan). slice_get cells column.position) columns
 
--- the header with its settings: it has no greatest height
+-- the header with its settings, of which the greatest height doesn't count
 abbrev pub dressed_header : SelectedValue → RowSettingsValue → RowValue → RowValue
 dressed_header content own row =
     record row {
@@ -72,7 +73,8 @@ dressed_rows content [] (row ∷ rows) = row ∷ rows
 dressed_rows content (own ∷ settings) (row ∷ rows) =
     dressed_row content own row ∷ dressed_rows content settings rows
 
--- a table of rows with the settings of its header and its rows: it is styled anyway
+-- a table of rows with the settings of its header and its rows; colours and attributes are always
+-- written
 abbrev pub dressed_table : SelectedValue → List RowSettingsValue → TableValue → TableValue
 dressed_table content [] table = table
 dressed_table content (heading ∷ settings) table =
@@ -89,33 +91,33 @@ styled_rows settings look content is_aligned =
 
 -- ---- tables
 
--- whether there is room for the table of rows: for the spaces that line up decimal points, and for
+-- true if there is room for the table of rows: for the spaces that align decimal points, and for
 -- its width
 abbrev pub has_room_by : SettingsValue → Look → SelectedValue → Bool → Bool
 has_room_by settings look content is_aligned =
     has_room_in (limits_in settings.columns content) look.width is_aligned (wanted_in look content)
     (styled_rows settings look content is_aligned)
 
--- whether decimal points are lined up: if there is room for the spaces
+-- true if decimal points are aligned: there is room for the spaces
 abbrev pub is_aligned_by : SettingsValue → Look → SelectedValue → Bool
 is_aligned_by settings look content =
     look.aligns_decimals && has_room_by settings look content true
 
--- the table that is drawn, with all lines of its style: expanded records have no settings
+-- the table that is drawn, with all lines of its style; expanded records have no settings
 abbrev pub styled_table : SettingsValue → Bool → Look → SelectedValue → TableValue
 styled_table settings true look content = output_table true look content
 styled_table settings false look content =
     limited_by (limits_in settings.columns content) look.width (wanted_in look content)
     (styled_rows settings look content (is_aligned_by settings look content))
 
--- whether records are expanded
+-- true if records are expanded
 abbrev pub is_expanded_by : SettingsValue → Look → SelectedValue → Bool
 is_expanded_by settings look content =
     is_expanded_in look.expansion
     ((length content.rows == 0) || has_room_by settings look content
     (is_aligned_by settings look content))
 
--- the text of such a table, with lines between rows or without
+-- `text` is the text of such a table, with lines between rows or without
 pub record RendersStyledTable (settings : SettingsValue) (is_expanded : Bool) (look : Look)
     (content : SelectedValue) (text : Text) : Type 0 where
   pub has_separators : Bool
@@ -128,7 +130,7 @@ pub record RendersStyledTable (settings : SettingsValue) (is_expanded : Bool) (l
       (separated_table has_separators (styled_table settings is_expanded look content)) arranged
   pub is : text ≡ table_text is_expanded content arranged
 
--- the text of a table of rows, or of expanded records
+-- `text` is the text of a table of rows, or of expanded records
 pub record RendersStyled (settings : SettingsValue) (look : Look) (content : SelectedValue)
     (text : Text) : Type 0 where
   pub is_expanded : Bool
@@ -142,7 +144,8 @@ RendersStyledContent settings true look content text = RendersAsMarkdown look co
 RendersStyledContent settings false look content text =
     RendersStyled settings look (with_centers settings.columns content) text
 
--- the output for some records, and for the count of those below the header, if that is known
+-- `output` is the output for some records; `counted` is the number of records below the header, if
+-- it is known
 pub record RendersStyledRecords (settings : SettingsValue) (counted : Option ℕ)
     (layout : Layout) (records : List (List Text)) (output : Text) : Type 0 where
   pub content : SelectedValue

@@ -8,8 +8,8 @@ const BOOKS: &[[&str; 4]] = &[
     ["C", "Кобзар", "260", "songs of a kobza player"],
 ];
 
-/// Prints the table twice: as its columns share the room, and by constraints, one of which hides a
-/// column. Its right edge is straight in terminal columns: a Chinese character takes two.
+/// Prints the table twice: with columns that share the room, and with constraints, one of which
+/// hides a column. Its right edge is straight in terminal columns: a Chinese character takes two.
 pub fn print_books(rt: &HostRuntime, books: &mut Table) -> anyhow::Result<()> {
     fill(books)?;
     println!(rt; "{}", books.to_text()?)?;

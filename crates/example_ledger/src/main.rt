@@ -1,5 +1,5 @@
-//! Draws a ledger: titles above the columns, amounts at the right, long texts wrapped, and the sum
-//! at the end. Then books, whose columns share a width, or have constraints.
+//! Draws a ledger: titles above the columns, right-aligned amounts, wrapped long texts, and the sum
+//! at the end. Then it draws books, whose columns share a width, or have constraints.
 #![tactic(auto)]
 
 mod books;

@@ -1,5 +1,5 @@
-//! Prints a summary of benchmarks, of which a contract says what its readers rely on: all lines are
-//! equally wide, none is wider than the width, and no text is lost.
+//! Prints a summary of benchmarks. A contract has the facts on which its readers rely: all lines
+//! are equally wide, none is wider than the width, and no text is lost.
 #![tactic(auto)]
 
 mod summary;
@@ -21,7 +21,7 @@ fn main(rt: HostRuntime) -> anyhow::Result<()> {
     Ok(())
 }
 
-// what a run of benchmarks would give
+// the result that a run of benchmarks would give
 fn measured(alloc: Global) -> anyhow::Result<Vec<Measurement>> {
     let mut measurements = Vec::new(alloc);
     for (name, nanos, runs) in MEASURED {

@@ -1,4 +1,4 @@
-//! The summary, and what is proved of it.
+//! The summary, and the facts that are proved about it.
 
 ghost use Rattle.std.specs.Prelude.{◌≡◌, ◌∷◌, [], IfOk, string_bytes};
 ghost use Rattle.comfy_parts.specs.CellValue.{number_cell, plain_cell};
@@ -12,7 +12,7 @@ use promises::laws::{
 };
 use std::alloc::Global;
 
-/// What was measured: how long a run took, and how many there were.
+/// A measurement: the duration of a run, and the number of runs.
 #[derive(Drop)]
 pub struct Measurement {
     pub name: String,
@@ -20,7 +20,7 @@ pub struct Measurement {
     pub runs: u64,
 }
 
-// so a measurement is a row
+// this makes a row of a measurement
 impl IntoCells for Measurement {
     ghost cells_of = { λ one.
         plain_cell (string_bytes one.name) ∷ number_cell one.nanos ∷ number_cell one.runs ∷ [] };
@@ -42,7 +42,7 @@ pub fn summary(alloc: Global, measurements: Vec<Measurement>, width: u16) -> Res
     table.lines()
 }
 
-// a function of its own, whose clause names the table
+// a separate function, whose clause names the table
 fn table_for(alloc: Global, measurements: Vec<Measurement>, width: u16) -> Result<Table>
     ensures { IfOk result (λ table. table ≡ summary_table width measurements.items) }
 {

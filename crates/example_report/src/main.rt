@@ -1,9 +1,9 @@
-//! Prints what a run of tests gave: PASS and FAIL in colours, times at the right, and long messages
-//! cut at three lines.
+//! Prints the results of a run of tests: PASS and FAIL in colours, right-aligned times, and long
+//! messages that are cut at three lines.
 //!
-//! The report is as wide as COLUMNS says, and has colours where it is printed on a terminal and
-//! NO_COLOR isn't set. Its arguments say otherwise: `color` or `plain`, and then one or more
-//! widths, at each of which the report is printed.
+//! The report is as wide as COLUMNS says, and has colours if it is printed on a terminal and
+//! NO_COLOR isn't set. Arguments override this: `color` or `plain`, and then one or more widths.
+//! The report is printed once for each width.
 #![tactic(auto)]
 
 mod report;
@@ -46,7 +46,7 @@ fn main(rt: HostRuntime) -> anyhow::Result<()> {
     obey(&rt, &mut report)
 }
 
-// prints the report as the arguments say
+// prints the report as the arguments request
 fn obey(rt: &HostRuntime, report: &mut Table) -> anyhow::Result<()> {
     let mut terminal = terminal(rt);
     let mut is_printed = false;
@@ -73,7 +73,7 @@ fn print(rt: &HostRuntime, table: &Table) -> anyhow::Result<()> {
     Ok(())
 }
 
-// what is known of the terminal; colours are written where standard output is one
+// the facts about the terminal; colours are written if standard output is one
 fn terminal(rt: &HostRuntime) -> Terminal {
     let columns = env::var(rt, "COLUMNS").ok();
     Terminal {

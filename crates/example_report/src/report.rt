@@ -30,7 +30,7 @@ pub fn fill(report: &mut Table, alloc: Global, tests: &[Test]) -> Result<()> {
     Ok(())
 }
 
-// how many tests there are, whether all passed, the time of all, and how many failed
+// the number of tests, whether all passed, their total time, and the number of failures
 fn sums(alloc: Global, tests: &[Test]) -> Result<Row> {
     let mut millis: u64 = 0;
     let mut failed: usize = 0;

@@ -1,4 +1,4 @@
--- What the callers in `uses` say of drawings and of rows.
+-- Claims of the callers in `uses` about drawings and rows.
 use Rattle.std.specs.Prelude.{◌≡◌, ◌≤◌, ◌==◌, ◌∷◌, ◌++◌, ℕ, [], List, Some, false, All, map}
 use Rattle.std.specs.List.{concat, slice_split}
 use Rattle.comfy_parts.specs.CellValue.{CellValue, ColumnInfo, RowValue, info_of, new_column, plain_cell, plain_row}
@@ -16,14 +16,14 @@ use Rattle.comfy_table.specs.Straight.{EachShownCell}
 use Rattle.comfy_table.specs.TableValue.{TableValue, header_and_rows, new_table, should_style, table_width, with_header, with_row}
 use Rattle.test_callers.specs.declared.uses.items.NumberRows.{NumberRows}
 
--- the lines are a drawing of the table in which each frame line has n characters
+-- the lines are a drawing of the table, and each frame line has n characters
 abbrev pub HasFrameOf : ℕ → TableValue → List Text → Type 0
 HasFrameOf n table lines =
     (widths : List ℕ) × (lines ≡ drawing table widths)
     × ((line : LineStyle)
     → count (frame_line table.style line (outer_widths (infos_of table widths))) ≡ n)
 
--- a table of a header and a row that keeps to a width
+-- a table of a header and a row with a width
 abbrev pub table_within : ℕ → RowValue → RowValue → TableValue
 table_within w header row =
     with_row row (with_header header
@@ -33,15 +33,15 @@ table_within w header row =
 abbrev pub table_of_two : RowValue → RowValue → TableValue
 table_of_two header row = with_row row (with_header header (new_table ascii_full))
 
--- no line of the text has more than w characters, where the table is plain and w is enough for it
+-- no line of the text has more than w characters, if the table is plain and w is enough for it
 abbrev pub IsPrintedWithin : ℕ → TableValue → Text → Type 0
 IsPrintedWithin w table text =
     NoConstraints table → ((widths : List ℕ) → IsPrintableTable table widths)
     → least_total table ≤ w
     → All (λ line. count line ≤ w) (slice_split (λ b. b == 0x0A) text)
 
--- a page is appended, no line of which has more than w characters, where the table without styling
--- and line feeds of its own keeps to w, is plain, and w is enough for it
+-- A page is appended without lines of more than w characters. This holds if the table, without
+-- styling and without line feeds of its own, keeps to w, is plain, and w is enough for it.
 abbrev pub AppendsPageWithin : TableValue → Text → Text → Type 0
 AppendsPageWithin table old new =
     (page : Text) × (new ≡ old ++ page)
@@ -49,21 +49,21 @@ AppendsPageWithin table old new =
     → should_style table ≡ false → table.custom_styling ≡ false → HasUnbrokenStyle table
     → IsPrintedWithin w table page)
 
--- a table of one text that keeps to a width
+-- a table of one text with a width
 abbrev pub text_within : ℕ → Text → TableValue
 text_within w text =
     with_row (plain_row (plain_cell text ∷ []))
     (record (new_table ascii_full) { set_width = Some w; arrangement = Dynamic })
 
--- what is visible of the lines of that text in a new column of content width w
+-- the visible lines of that text in a new column of content width w
 abbrev pub lines_of_one : TableValue → ℕ → Text → List Text
 lines_of_one table w text =
     map (λ (line : CellLine). line.measured)
     (row_cell_lines table (plain_row (plain_cell text ∷ [])) (info_of (new_column 0) w)
     (plain_cell text))
 
--- the lines are a drawing of the table in which the lines of the text, one after another, have all
--- its characters, in order, but for spaces and line feeds
+-- The lines are a drawing of the table. The lines of the text in it, one after another, have all
+-- its characters, in order, except spaces and line feeds.
 abbrev pub IsDrawnWhole : TableValue → Text → List Text → Type 0
 IsDrawnWhole table text lines =
     (w : ℕ) × (lines ≡ drawing table (w ∷ []))
@@ -75,6 +75,7 @@ abbrev pub IsUnstyledDrawing : TableValue → List Text → Type 0
 IsUnstyledDrawing table lines = (widths : List ℕ) × (lines ≡ drawing (unstyled table) widths)
 
 -- the lines are a drawing of the table, whose rows and header have cells for which P holds in each
+-- the lines are a drawing of the table, in which P holds for the cells of rows and header in each
 -- shown column
 abbrev pub IsDrawnWithCells : (RowValue → ColumnInfo → CellValue → Type 0) → TableValue → List Text
     → Type 0
@@ -82,6 +83,6 @@ IsDrawnWithCells P table lines =
     (widths : List ℕ) × (lines ≡ drawing table widths)
     × EachShownCell P (header_and_rows table) table widths
 
--- the rows that the iterator still gives: each number that is left, in a list of its own
+-- the rows that the iterator hasn't given: each remaining number in a list of its own
 abbrev pub rows_left : NumberRows → List (List ℕ)
 rows_left numbers = map (λ number. number ∷ []) numbers.left.now

@@ -1,5 +1,5 @@
-//! Callers of the libraries, each with a claim of its own that is proved from their contracts.
-//! Nothing stands on this crate.
+//! Callers of the libraries, each with a claim that is proved from their contracts. Nothing depends
+//! on this crate.
 #![tactic(auto)]
 
 pub mod uses;

@@ -1,5 +1,5 @@
-//! Short functions as a caller writes them, each with a claim of its own that the contracts below
-//! carry.
+//! Short functions as a caller would write them, each with a claim that the contracts of the
+//! libraries prove.
 
 ghost use Rattle.std.specs.Prelude.{◌≡◌, ◌<◌, [], ◌∷◌, IfOk, None, OnErr, OnOk, Some, false, if◌then◌else◌, max, string_bytes};
 ghost use Rattle.comfy_parts.specs.CellValue.{number_cell, plain_cell, plain_row, with_cell};
@@ -52,7 +52,7 @@ pub fn add_pair(table: &mut Table, first: &str, second: &str) -> comfy_table::Re
     table.try_add_row([first, second])
 }
 
-/// Appends a text to a row where there is memory for it, and says whether there was. The row is
+/// Appends a text to a row if there is memory for it. Returns true if there was, and leaves the row
 /// unchanged otherwise.
 pub fn appended(alloc: Global, row: &mut Row, text: &str) -> bool
     ensures { row.new ≡ (if result then with_cell (plain_cell text.now) row.old else row.old) }
@@ -73,9 +73,9 @@ pub fn drawn(alloc: Global, header: Row, row: Row) -> comfy_table::Result<Lines>
     table.lines()
 }
 
-/// Draws a table over a whole width. Where a column is shown and none of the visible ones has a
-/// constraint, each frame line has as many characters as the width, or as borders, paddings and one
-/// character for each shown column, whichever is more.
+/// Draws a table with a width. If a column is shown and no shown column has a constraint, each
+/// frame line has as many characters as the width. If borders, paddings and one character for each
+/// shown column are more, it has as many as these.
 pub fn drawn_over_width(table: &mut Table, width: u16) -> comfy_table::Result<Lines>
     ensures set { table.new ≡ record table.old {
       set_width = Some width;
@@ -90,8 +90,8 @@ pub fn drawn_over_width(table: &mut Table, width: u16) -> comfy_table::Result<Li
     table.lines()
 }
 
-/// The drawing of a table. Where neither colours and attributes are written nor sequences inside
-/// cells are looked for, it is the drawing without them.
+/// Draws a table. If no colours and attributes are written, and sequences in cells count as
+/// characters, this is the drawing without styling.
 pub fn drawn_unstyled(table: &Table) -> comfy_table::Result<Lines>
     ensures { IfOk result (λ lines. should_style table.now ≡ false
         → table.now.custom_styling ≡ false
@@ -100,7 +100,7 @@ pub fn drawn_unstyled(table: &Table) -> comfy_table::Result<Lines>
     table.lines()
 }
 
-/// A sink that holds the output for an input, both in memory.
+/// Returns a sink that holds the output for an input, both in memory.
 pub fn output_for(alloc: Global, input: &[u8], room: usize) -> Result<MemorySink, RunError>
     ensures { IfOk result (λ sink. RendersInput None ContentArrangement.Disabled ascii_full
         input.now

@@ -1,5 +1,5 @@
-//! A case's table, built line by line through the public surface. A call that is new gets its words
-//! here.
+//! The table of a case, which is built line by line through public functions. A new function of the
+//! library gets its words here.
 
 use crate::request::{Request, request_of};
 use crate::settings::{arrangement, cell_of, set_column};
@@ -20,7 +20,7 @@ pub struct Builder {
     begun: Begun,
 }
 
-// what the row is that was begun last, and that the table doesn't have yet
+// the kind of the row that was begun last, which isn't in the table yet
 #[derive(Clone, Copy)]
 enum Begun {
     Nothing,
@@ -132,7 +132,7 @@ impl Builder {
         set_column(self.alloc, column, words.get(1..).unwrap_or(&[]))
     }
 
-    // adds a cell to the last row where it lies in the table
+    // adds a cell to the last row in the table
     fn add_late_cell(&mut self, words: &[&str]) -> Result<()> {
         let cell = cell_of(self.alloc, words)?;
         let last = self.table.row_count().saturating_sub(1);
@@ -142,7 +142,7 @@ impl Builder {
         }
     }
 
-    // gives the row begun last to the table
+    // adds the row that was begun last to the table
     fn finish_row(&mut self) -> Result<()> {
         let row = mem::replace(&mut self.row, Row::new(self.alloc));
         match self.begun {
@@ -206,7 +206,7 @@ fn write_widths(table: &Table, line: &mut String) -> Result<()> {
     Ok(())
 }
 
-// the facts of a terminal: whether each output is one, and a width, or `-` for none
+// the facts about a terminal: whether each output is one, and a width, or `-` for none
 fn terminal(stdout: &str, stderr: &str, columns: &str) -> Terminal {
     Terminal {
         stdout_is_tty: stdout == "true",

@@ -1,9 +1,9 @@
-//! What the lines of a case ask for.
+//! The requests of a case's lines.
 
 use crate::words::named;
 use case_files::Result;
 
-/// What a line asks for, by its first word.
+/// The request of a line, by its first word.
 #[derive(Clone, Copy)]
 pub enum Request {
     Cell,
@@ -49,7 +49,7 @@ const REQUESTS: [(&str, Request); 19] = [
     ("text_only", Request::TextOnly),
 ];
 
-/// What a line with this first word asks for.
+/// Returns the request of a line with this first word.
 pub fn request_of(word: &str) -> Result<Request> {
     named(&REQUESTS, word, "a line isn't known")
 }

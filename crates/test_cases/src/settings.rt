@@ -1,4 +1,4 @@
-//! Cells and columns of words; their settings are `NAME=VALUE`.
+//! Cells and columns from words. Their settings are `NAME=VALUE`.
 
 use crate::looks::{attribute, color};
 use crate::words::{character, named, width};
@@ -62,7 +62,7 @@ fn cell_setting(alloc: Global, word: &str) -> Result<CellSetting> {
     }
 }
 
-// the cell with the setting more that a word stands for
+// the cell with one more setting, for which a word stands
 fn with_setting(alloc: Global, cell: Cell, word: &str) -> Result<Cell> {
     let cell = match cell_setting(alloc, word)? {
         CellSetting::Alignment(alignment) => cell.set_alignment(alignment),

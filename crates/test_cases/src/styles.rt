@@ -1,4 +1,4 @@
-//! Presets and the parts of a style, as words.
+//! Presets and the parts of a style, from words.
 
 use crate::words::optional_character;
 use case_files::{Fault, Result};

@@ -1,9 +1,9 @@
-//! What a word stands for: a name, a character or a number.
+//! The value for which a word stands: a name, a character or a number.
 
 use case_files::{Fault, Result, text};
 use std::alloc::Global;
 
-/// What a name stands for among these, or the reason why it can't be read.
+/// Returns the value of this name, or the reason for which it can't be read.
 pub fn named<T: Copy>(names: &[(&str, T)], name: &str, reason: &'static str) -> Result<T> {
     for (known, value) in names {
         if *known == name {
@@ -23,7 +23,7 @@ pub fn character(alloc: Global, word: &str) -> Result<char> {
     }
 }
 
-/// The character that a word stands for, or none for an underscore.
+/// The character for which a word stands, or `None` for an underscore.
 pub fn optional_character(alloc: Global, word: &str) -> Result<Option<char>> {
     if word == "_" {
         return Ok(None);
@@ -47,7 +47,7 @@ pub fn width(word: &str) -> Result<u16> {
     }
 }
 
-/// Adds a number to a line of numbers with a space between.
+/// Adds a number to a line of numbers that are separated by spaces.
 pub fn push_number(line: &mut String, number: u16) -> Result<()> {
     if !line.is_empty() {
         line.push(' ')?;

@@ -1,5 +1,5 @@
-//! Reads cases from standard input, draws each one's records as its arguments ask for, and
-//! compares. Status 1 where a case differs or can't be read, or where there was none.
+//! Reads cases from standard input, draws the records of each one as its arguments request, and
+//! compares. The status is 1 if a case differs or can't be read, or if there was none.
 #![tactic(auto)]
 
 mod run;

@@ -1,11 +1,11 @@
-//! A run of csvtable: arguments, an input, and what is known of the process.
+//! A run of csvtable: arguments, an input, and facts about the process.
 
 use case_files::{Build, Fault, Result, first_or_empty, push_lines, text};
 use csv_command::{CsvError, Invocation, Options, OutputContext, draw, parse};
 use devices::{MemorySink, MemorySource};
 use std::alloc::{AllocError, Global};
 
-// How many bytes an output has at most.
+// The greatest number of bytes of an output.
 const ROOM: usize = 65536;
 
 /// A run that is being described.
@@ -78,7 +78,7 @@ impl Run {
         }
     }
 
-    // The output for the input, or what is said where there is none.
+    // The output for the input, or the message if there is none.
     fn output(&self) -> std::result::Result<String, AllocError> {
         let arguments = self.all_arguments()?;
         let context = OutputContext {
@@ -117,7 +117,7 @@ impl Run {
     }
 }
 
-// A sink that holds the output for an input, both in memory.
+// Returns a sink that holds the output for an input, both in memory.
 fn output_for(
     alloc: Global,
     input: &[u8],

@@ -1,4 +1,4 @@
--- What a further row leaves of a drawing, computed.
+-- The lines that a further row leaves in a drawing, computed.
 use Rattle.std.proofs.Common.{◌≡◌, [], ◌∷◌, refl, ap, slice_index_or}
 use Rattle.comfy_parts.proofs.Computing.{wrapping}
 use Rattle.comfy_parts.specs.CellValue.{RowValue}
@@ -20,18 +20,18 @@ one_more_row : AddsBelow two_lines short_row (2 ∷ []) (texts ("+----+" ∷ "| 
 unfolding wrapping
 one_more_row = (refl, refl)
 
--- where no row stands before it, no row separator comes
+-- without a row before it there is no row separator
 first_row : added_lines (table_of ascii_full ("ab" ∷ []) []) (infos_of two_lines (2 ∷ [])) short_row ≡ texts ("| e  |" ∷ [])
 unfolding wrapping
 first_row = refl
 
--- a row that is wider than its column changes what was shown
+-- a row that is wider than its column changes the shown lines
 wider_row : drawing (with_row (row_of ("efg" ∷ [])) two_lines) (3 ∷ [])
     ≡ texts ("+-----+" ∷ "| ab  |" ∷ "+=====+" ∷ "| cd  |" ∷ "|-----|" ∷ "| efg |" ∷ "+-----+" ∷ [])
 unfolding wrapping
 wider_row = refl
 
--- so its lines aren't those of the first table and some below
+-- so its lines aren't those of the first table with some lines below
 -- false: comfy_table::laws::shown_lines_stay
 wider_lines_do_not_stay : ¬ (AddsBelow two_lines short_row (2 ∷ []) (drawing two_lines (2 ∷ []))
     (drawing (with_row short_row two_lines) (3 ∷ [])))

@@ -1,4 +1,4 @@
--- What the words after the program's name ask for.
+-- The settings that the words after the program's name set.
 use Rattle.std.proofs.Common.{◌≡◌, List, [], ◌∷◌, refl, Option, Some, None, map}
 use Rattle.std.specs.Prelude.{codes}
 use Prim.Native.String.{String}
@@ -7,7 +7,7 @@ use Rattle.comfy_parts.specs.declared.style.table.ContentArrangement.TheVariants
 use Rattle.comfy_run.specs.Arguments.{arrangement_for, settings_for, width_for}
 use Rattle.comfy_run.specs.declared.settings.Settings.{Settings}
 
--- the settings that these words ask for
+-- the settings for these words
 abbrev invocation : List String → Option Settings
 invocation words = settings_for (map (λ (word : String). record { ref_ptr = (0, 0); now = codes word }) words)
 
@@ -32,7 +32,7 @@ four_words = refl
 unknown_style : invocation ("20" ∷ "full" ∷ "FANCY" ∷ []) ≡ None
 unknown_style = refl
 
--- a hyphen, the numbers at both ends, and leading zeros
+-- a hyphen, the smallest and the greatest number, and leading zeros
 widths : map (λ (word : String). width_for (codes word)) ("-" ∷ "0" ∷ "65535" ∷ "000" ∷ "00065" ∷ []) ≡ Some None ∷ Some (Some 0) ∷ Some (Some 65535) ∷ Some (Some 0) ∷ Some (Some 65) ∷ []
 widths = refl
 

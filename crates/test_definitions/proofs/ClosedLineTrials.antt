@@ -22,7 +22,7 @@ use Rattle.test_definitions.proofs.TrialTables.{rows_of, utf8, with_paddings}
 bold_is_open : open_after (parts (codes "| \u{1b}[1mab |")) ≡ codes "\u{1b}[1m" ∷ []
 bold_is_open = refl
 
--- so such a line leaves one open
+-- such a line leaves a sequence open
 -- false: comfy_parts::laws::lines_leave_no_sequence_open
 -- false: comfy_table::laws::new_tables_leave_no_sequence_open
 pub bold_stays_open : ¬ (LeavesNoneOpen (codes "| \u{1b}[1mab |"))
@@ -39,7 +39,7 @@ half_is_none = refl
 attribute_is_closed : LeavesNoneOpen (codes "|\u{1b}[1m x \u{1b}[0m|")
 attribute_is_closed = refl
 
--- its colours alone end with another sequence, which is one more that is open
+-- its colours end with another sequence, which also counts as open
 colour_stays_open : open_after (parts (codes "|\u{1b}[38;5;10m x \u{1b}[39m|")) ≡ codes "\u{1b}[38;5;10m" ∷ codes "\u{1b}[39m" ∷ []
 colour_stays_open = refl
 
@@ -51,12 +51,12 @@ halves = record (rows_of nothing (("\u{1b}[1" ∷ "m" ∷ []) ∷ [])) { custom_
 abbrev joined_halves : TableValue
 joined_halves = with_paddings ((0, 0) ∷ (0, 0) ∷ []) halves
 
--- apart by paddings they stay halves
+-- separated by paddings, they stay halves
 halves_apart : drawing halves (3 ∷ 1 ∷ []) ≡ codes " \u{1b}[1  m " ∷ []
 unfolding wrapping
 halves_apart = refl
 
--- side by side they are one, which stays open
+-- next to each other they form a sequence, which stays open
 halves_join : drawing joined_halves (3 ∷ 1 ∷ []) ≡ codes "\u{1b}[1m" ∷ []
 unfolding wrapping
 halves_join = refl
@@ -64,7 +64,7 @@ halves_join = refl
 joined_stays_open : ¬ (LeavesNoneOpen (codes "\u{1b}[1m"))
 joined_stays_open none = true≢false (sym (ap (λ (ss : List Text). length ss == 0) none))
 
--- the paddings are what the first has and the second hasn't
+-- a column has a left padding, or no ESC in its cells
 abbrev EndsInTexts : TableValue → ℕ × ColumnValue → Type 0
 EndsInTexts table p = (1 ≤ p.1.padding.1) ⊎ All (λ (cell : CellValue). All HasNoEscape cell.text_lines) (column_cells table p.0)
 
@@ -87,7 +87,7 @@ joined_halves_do_not alone =
 abbrev pub bold_letter : TableValue
 bold_letter = record (rows_of nothing (("\u{1b}[1mé\u{1b}[0m" ∷ []) ∷ [])) { custom_styling = true }
 
--- its bytes apart, on red, and the second one concealed
+-- the bytes of the letter are torn apart, on red, and the second one is concealed
 abbrev pub torn_letter : Text
 torn_letter = codes " \u{1b}[41m" ++ (0xC3 ∷ codes "\u{1b}[8m") ++ (0xA9 ∷ codes " ")
 
@@ -120,19 +120,19 @@ one_before_the_cut : uncut_in_row (new_table ascii_full) (record three_lines { m
 unfolding wrapping
 one_before_the_cut = refl
 
--- with custom styling sequences take no columns
+-- with custom styling, sequences take no terminal columns
 sequences_cut_nothing : uncut_in_row (record (new_table ascii_full) { custom_styling = true }) (record three_lines { max_height = Some 1 }) narrow (plain_cell (codes "\u{1b}[1mab\u{1b}[0m")) ≡ 1
 unfolding wrapping
 sequences_cut_nothing = refl
 
--- without it they do
+-- without it, they do
 sequences_are_cut : uncut_in_row (new_table ascii_full) (record three_lines { max_height = Some 1 }) narrow (plain_cell (codes "\u{1b}[1mab\u{1b}[0m")) ≡ 0
 unfolding wrapping
 sequences_are_cut = refl
 
 -- ---- sequences that are resumed
 
--- the only text line of a cell is the one in which a line begins
+-- if a cell has one text line, each line begins in this one
 only_text : (text : Text) (earlier : List Text) (own : Text) (later : List Text) → text ∷ [] ≡ earlier ++ own ∷ later → (earlier ≡ []) × (own ≡ text)
 only_text text [] own later same = (refl, sym (cc same))
 only_text text (x ∷ []) own later same = absurd (cc same)

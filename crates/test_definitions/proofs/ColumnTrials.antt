@@ -1,4 +1,4 @@
--- Columns by words: ranges, and columns that are left out.
+-- Columns by words: ranges, and dropped columns.
 use Rattle.std.proofs.Common.{◌≡◌, List, [], ◌∷◌, Some, Ok, Err, codes, false, map, refl, true}
 use Prim.Native.String.{String}
 use Rattle.std.specs.Fmt.{digits}
@@ -24,19 +24,19 @@ texts words = map (λ (word : String). codes word) words
 abbrev header : List Text
 header = texts ("a" ∷ "e" ∷ "e-mail" ∷ "phone" ∷ [])
 
--- a name before a range, a range by numbers, by names, and one that is open
+-- a name before a range, ranges by numbers and by names, and an open range
 by_range :
     map (positions_of_word header 5) (texts ("e-mail" ∷ "2-3" ∷ "a-e" ∷ "1-phone" ∷ "e-5" ∷ "4-" ∷ "phone-" ∷ "5-" ∷ "phone-phone" ∷ []))
     ≡ Ok (2 ∷ []) ∷ Ok (1 ∷ 2 ∷ []) ∷ Ok (0 ∷ 1 ∷ []) ∷ Ok (0 ∷ 1 ∷ 2 ∷ 3 ∷ []) ∷ Ok (1 ∷ 2 ∷ 3 ∷ 4 ∷ []) ∷ Ok (3 ∷ 4 ∷ []) ∷ Ok (3 ∷ 4 ∷ []) ∷ Ok (4 ∷ []) ∷ Ok (3 ∷ []) ∷ []
 by_range = refl
 
--- the first hyphen around which both ends are there
+-- the first hyphen with existing columns on both sides
 by_hyphens :
     map (positions_of_word header 4) (texts ("e-mail-phone" ∷ "a-e-mail" ∷ "e-mail-e-mail" ∷ "e-mail-" ∷ "e-e-mail" ∷ []))
     ≡ Ok (2 ∷ 3 ∷ []) ∷ Ok (0 ∷ 1 ∷ 2 ∷ []) ∷ Ok (2 ∷ []) ∷ Ok (2 ∷ 3 ∷ []) ∷ Ok (1 ∷ 2 ∷ []) ∷ []
 by_hyphens = refl
 
--- in order: where the first hyphen's ends fall, a later one counts
+-- in order: if the columns at the first hyphen fall, a later hyphen counts
 in_order : positions_of_word (texts ("b-a" ∷ "a" ∷ "a-b" ∷ "b" ∷ [])) 4 (codes "b-a-b") ≡ Ok (0 ∷ 1 ∷ 2 ∷ 3 ∷ [])
 in_order = refl
 
@@ -46,27 +46,27 @@ no_ranges :
 unfolding field_at
 no_ranges = refl
 
--- a number that no column has is a name
+-- a number without a column is a name
 numbers_as_names :
     map (positions_of_word (texts ("2" ∷ "2024" ∷ "2025" ∷ [])) 3) (texts ("2" ∷ "2024" ∷ "2024-2025" ∷ "2-2025" ∷ "2024-3" ∷ "1-2024" ∷ []))
     ≡ Ok (1 ∷ []) ∷ Ok (1 ∷ []) ∷ Ok (1 ∷ 2 ∷ []) ∷ Ok (1 ∷ 2 ∷ []) ∷ Ok (1 ∷ 2 ∷ []) ∷ Ok (0 ∷ 1 ∷ []) ∷ []
 numbers_as_names = refl
 
--- hints: a name in another case of letters or without spaces at its ends, or the columns that there are
+-- hints: a similar name, in another case or without spaces at its ends, or else the columns that exist
 hints :
     map (hint_for (texts ("a" ∷ "Ab" ∷ "AB" ∷ "" ∷ " c d " ∷ [])) 6) (texts ("ab" ∷ " a" ∷ "C d" ∷ "cd" ∷ []))
     ≡ texts ("did you mean 'Ab'?" ∷ "did you mean 'a'?" ∷ "did you mean ' c d '?" ∷ "there are 'a', 'Ab', 'AB', 4, ' c d ' and 6" ∷ [])
 unfolding field_at digits
 hints = refl
 
--- several words that are a name with a comma between them, and the same in another order
+-- several words that are a name when they are joined by commas, and the same words in another order
 whole : {A : Type 0} (b a : Word A) → string_bytes b ≡ codes "b" → string_bytes a ≡ codes "a" → positions_of (texts ("b" ∷ "a" ∷ "b,a" ∷ [])) 3 (b ∷ a ∷ []) ≡ Ok (2 ∷ [])
 whole b a is_b is_a = rw (is_b, is_a) refl
 
 in_parts : {A : Type 0} (b a : Word A) → string_bytes b ≡ codes "b" → string_bytes a ≡ codes "a" → positions_of (texts ("b" ∷ "a" ∷ "b,a" ∷ [])) 3 (a ∷ b ∷ []) ≡ Ok (1 ∷ 0 ∷ [])
 in_parts b a is_b is_a = rw (is_b, is_a) refl
 
--- a single word is a number before it is a name
+-- a single word is tried as a number before it is tried as a name
 single : {A : Type 0} (word : Word A) → string_bytes word ≡ codes "1" → positions_of (texts ("2" ∷ "1" ∷ [])) 2 (word ∷ []) ≡ Ok (0 ∷ [])
 single word is = rw is refl
 
@@ -80,11 +80,11 @@ columns_are_counted : map (λ count. hint_for [] count (codes "b")) (0 ∷ 1 ∷
 unfolding digits
 columns_are_counted = refl
 
--- columns left out, wherever they are; the first fault
+-- dropped columns, at any place; the first fault
 left_out : map (less (Ok (0 ∷ 1 ∷ 2 ∷ 1 ∷ []))) (Ok (1 ∷ 5 ∷ []) ∷ Ok [] ∷ Err (missing (codes "x") []) ∷ []) ≡ Ok (0 ∷ 2 ∷ []) ∷ Ok (0 ∷ 1 ∷ 2 ∷ 1 ∷ []) ∷ Err (missing (codes "x") []) ∷ []
 left_out = refl
 
--- one is to be left
+-- at least one column must be left
 none_are_left : map (less (Ok (0 ∷ 2 ∷ []))) (Ok (2 ∷ 0 ∷ []) ∷ Ok (0 ∷ []) ∷ []) ≡ Err none_left ∷ Ok (2 ∷ []) ∷ []
 none_are_left = refl
 
@@ -93,7 +93,7 @@ chosen_before_left_out = refl
 
 -- ---- what rows show
 
--- the look of a table with fields as they are
+-- the look of a table with unchanged fields
 abbrev look : Look
 look = plain_look
 
@@ -101,7 +101,7 @@ look = plain_look
 abbrev prices : List ColumnPlan
 prices = record { position = 1; alignment = Some Right; points = Some (record { mark = Point; longest = 3 }); is_nowrap = true } ∷ []
 
--- behind the record's number or not, with decimal marks below each other or not
+-- after the record's number or without it, with aligned decimal marks or without
 numbered : map (λ is_numbered. shown_in look false is_numbered prices (7, texts ("oats" ∷ "3.5" ∷ []))) (true ∷ false ∷ [])
     ≡ (record { alignment = Some Right; text = codes "7" } ∷ record { alignment = Some Right; text = codes "3.5" } ∷ []) ∷ (record { alignment = Some Right; text = codes "3.5" } ∷ []) ∷ []
 unfolding digits field_at
@@ -112,7 +112,7 @@ aligned : map (λ is_aligned. shown_in look is_aligned false prices (7, texts ("
 unfolding chars lib.Utf8.encode ucd_category field_at is_neutral is_number
 aligned = refl
 
--- the header, with what stands above the numbers
+-- the header, with the name above the numbers
 names : map (λ is_numbered. shown_names look is_numbered prices (texts ("name" ∷ "price" ∷ []))) (true ∷ false ∷ [])
     ≡ (record { alignment = Some Right; text = codes "#" } ∷ record { alignment = Some Right; text = codes "price" } ∷ []) ∷ (record { alignment = Some Right; text = codes "price" } ∷ []) ∷ []
 unfolding field_at

@@ -1,4 +1,4 @@
--- Values of which the laws on conditions of promises are false.
+-- Counterexamples to the laws about conditions of promises.
 use Rattle.std.proofs.Common.{◌≡◌, ◌≤◌, ℕ, false, true, List, [], ◌∷◌, None, Some, ap, arith, codes, length, slice_index_or, unwrap_or}
 use Rattle.std.specs.List.{All, join_by}
 use Rattle.std.specs.Prelude.{encode_utf8_all, slice_index}
@@ -21,7 +21,7 @@ use Rattle.test_definitions.proofs.PromiseTrials.{wide_is_refused, widening_behi
 use Rattle.test_definitions.proofs.StraightTrials.{number_sign_adds_two, selector_joins}
 use Rattle.test_definitions.proofs.TrialTables.{row_of, utf8}
 
--- a character of two columns, and a cell that breaks elsewhere than at spaces
+-- a character of two terminal columns, and a cell that breaks at other characters than spaces
 -- false: promises::laws::printable_texts_are_narrow
 wide_text : ¬ (IsNarrowCell (plain_cell (utf8 "京")))
 unfolding encode
@@ -30,7 +30,7 @@ wide_text is = wide_is_refused (All-head (CharactersFit 1) (utf8 "京") [] is.ch
 other_delimiter : ¬ (IsNarrowCell (record (plain_cell (codes "ab")) { delimiter = Some 0x2D }))
 other_delimiter is = cc is.delimiter
 
--- nor does each line of a text fit of which one character is too wide, or two selectors clash
+-- a line of a text doesn't fit if one character is too wide, or two selectors clash
 -- false: promises::laws::fitting_texts_have_fitting_lines
 wide_second_line : ¬ (All (CharactersFit 1) (plain_cell (utf8 "a\n京")).text_lines)
 unfolding wrapping encode
@@ -88,7 +88,7 @@ joining_indicator frame = selector_joins frame.indicator
 no_padding : ¬ (HasPlainFrame (with_column (record (new_column 0) { padding = (0, 1) })))
 no_padding frame = let some : 1 ≤ 0 = frame.paddings 0 (new_column 0) (omega arith) in absurd (omega (arith, some))
 
--- the table is no table of another header, of other rows, or of another order
+-- the table has this header and these rows
 abbrev IsTable : RowValue → List RowValue → TableValue → Type 0
 IsTable header rows made = IsOfRows (new_table ascii_full) header rows made
 
@@ -128,14 +128,15 @@ cell_without_a_column is = let fits : 1 ≤ 0 = is.room 0 row (omega arith) in a
 
 -- ---- parts
 
--- the drawing of the table, whose column has two terminal columns: a frame line, the header, one, the row, one
+-- the drawing of the table, whose column has two terminal columns: a frame line, the header, a frame line, the row, a
+-- frame line
 abbrev infos : List ColumnInfo
 infos = infos_of table (2 ∷ [])
 
 abbrev drawn : List Text
 drawn = drawing_of_infos table infos
 
--- it is none without its row, without its header, and without its borders
+-- it isn't the drawing without its row, without its header, or without its borders
 -- false: promises::laws::parts_are_framed_rows
 row_is_lost : ¬ (drawn ≡ framed table infos [])
 unfolding wrapping
@@ -149,7 +150,7 @@ borders_are_lost : ¬ (drawn ≡ drawn_rows table infos (row ∷ []))
 unfolding wrapping
 borders_are_lost is = let few : ◌≡◌ {A = ℕ} 5 1 = ap length is in absurd (omega (arith, few))
 
--- two rows, put together without a line between them, and in another order
+-- two rows, without a line between them, and in another order
 abbrev of_two : TableValue
 of_two = with_rows (row ∷ row_of ("cd" ∷ []) ∷ []) (new_table ascii_full)
 

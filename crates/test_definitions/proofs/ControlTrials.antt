@@ -16,7 +16,7 @@ use Rattle.comfy_parts.specs.declared.style.column.ColumnConstraint.TheVariants.
 use Rattle.comfy_table.specs.TableValue.{TableValue, column_cells, constrained, shown_columns}
 use Rattle.test_definitions.proofs.TrialTables.{rows_of, utf8}
 
--- a text of these characters is a text of no others
+-- if some of these characters are control characters, their text has one
 holds_one : (cs : List ℕ) → (NonePass is_control cs → ⊥) → ¬ (HasNoControl (encode_utf8_all cs))
 holds_one cs found none = found (subst (NonePass is_control) (encodes_same none.0 cs none.1) none.2)
 
@@ -26,11 +26,11 @@ tab_is_one = holds_one (codes "a\t") (λ none. true≢false none.1.0)
 delete_is_one : ¬ (HasNoControl (utf8 "\u{7f}"))
 delete_is_one = holds_one (codes "\u{7f}") (λ none. true≢false none.0)
 
--- so is the character that some terminals take for ESC and `[`, though it is two bytes
+-- U+009B, which some terminals read as ESC and `[`, is a control character too, though it has two bytes
 c1_is_one : ¬ (HasNoControl (utf8 "\u{9b}1m"))
 c1_is_one = holds_one (codes "\u{9b}1m") (λ none. true≢false none.0)
 
--- the no-break space follows the last of them
+-- U+00A0 follows the last control character
 no_break_space_is_none : HasNoControl (utf8 "~\u{a0}…")
 no_break_space_is_none = (codes "~\u{a0}…", refl, (refl, (refl, (refl, tt))))
 
@@ -40,7 +40,7 @@ colours_are_taken_out : HasNoControl (visible_text (codes "\u{1b}[1ma\u{1b}[0m")
 unfolding wrapping
 colours_are_taken_out = (codes "a", refl, (refl, tt))
 
--- no other sequence is
+-- other sequences aren't taken out
 clearing_stays : ¬ (HasNoControl (visible_text (codes "\u{1b}[2J")))
 unfolding wrapping
 clearing_stays = holds_one (codes "\u{1b}[2J") (λ none. true≢false none.0)
@@ -64,7 +64,7 @@ plain_is_free =
       characters = refl;
     }
 
--- a hidden column, whatever stands in it
+-- a hidden column with any cells
 abbrev hiding : TableValue
 hiding = let table : TableValue = rows_of ascii_full (("\u{1b}[2J" ∷ []) ∷ []) in record table { columns = constrained (Hidden ∷ []) table.columns }
 
@@ -77,7 +77,7 @@ hidden_is_free =
       characters = refl;
     }
 
--- a style that fills with TABs isn't
+-- a style with TABs has control characters
 abbrev with_tabs : TableValue
 with_tabs = record plain { style = record ascii_full { top_border = record ascii_full.top_border { fill = Some 0x09 } } }
 

@@ -1,4 +1,4 @@
--- Lines that show no field of a record, a wrong one, or in a wrong place.
+-- Lines that don't show a field of a record, or show a wrong one, or show it at a wrong place.
 use Rattle.std.proofs.Common.{◌≡◌, ◌==◌, ◌&&◌, ◌⊎◌, inl, inr, ◌<◌, ◌≤◌, ◌-◌, ℕ, zero, suc, ◌+◌, Bool, true, false, List, [], ◌∷◌, ◌++◌, Option, None, Some, is_some, arith, append-nil, codes, drop, append_assoc, filter_map, flat_map, length, map, max, min, nat_le, refl, slice_index_or, sym, ap, ap₂, ◌∙◌, subst, unwrap_or}
 use Rattle.std.specs.List.{All, AllZip, cons_option, enumerate_from, join_by, slice_get, slice_split}
 use Rattle.std.specs.Prelude.{if◌then◌else◌, EachIndex, IfSome, MatchOption, encode_utf8_all, option_map, option_to_list, replicate}
@@ -27,7 +27,7 @@ use Rattle.promises.proofs.KeptLemmas.{slices_anywhere}
 use Rattle.promises.specs.Headline.{AreContentLines, AreLinesOfCell, AreLinesOfParts, AreLinesOfRow, AreLinesOfText, IsFramedDrawing, IsPiece, IsUncoloured, framed, is_coloured, is_styled, side_in, side_of, lines_in, widths_shown, whole_width}
 use Rattle.csv_promises.specs.Fields.{HoldsField, HoldsFields, IsDrawingOf, IsFieldColumn, cells_after_name, side_at, widest_whole}
 
--- a style with a hyphen, which no line draws where there is no header
+-- a style with a hyphen, which isn't drawn without a header
 abbrev pub dashed : TableStyle
 dashed = record nothing { header_separator = record { left = None; fill = Some 0x2D; junction = None; right = None } }
 
@@ -78,7 +78,7 @@ one_row {has_names} {sides} look own_style plain_header narrow whole fields line
         ∙ subst (λ (s : TableStyle). is.framed.plain ≡ optional_frame_line s s.top_border (widths_shown table plain.width) ++ (plain.frame.header ++ (join_by (λ (block : List Text). block) (optional_frame_line s s.row_separator (widths_shown table plain.width)) plain.frame.rows
         ++ optional_frame_line s s.bottom_border (widths_shown table plain.width)))) style plain.frame.drawn
 
-    -- the rows are whole, whatever the header is
+    -- the columns of the rows are kept whole, with any header
     by_width : (o : Option ℕ) → ((i : ℕ) → i < length table.columns → slice_get whole i ≡ Some true → widest_whole o table i ≤ plain.width i) → (i : ℕ) → i < length table.columns → slice_get whole i ≡ Some true → widest_of table.rows i ≤ plain.width i
     by_width (Some w) wide i below is_whole = wide i below is_whole
     by_width None wide i below is_whole = below_header table.header (wide i below is_whole)
@@ -135,7 +135,7 @@ one_row {has_names} {sides} look own_style plain_header narrow whole fields line
               keeps_whole = wide;
             })
 
--- a field that is one text line, which begins with no space
+-- a field that is one text line, and doesn't begin with a space
 pub record IsOneText (field : Text) : Type 0 where
   pub one : slice_split (λ b. b == 0x0A) (unless_blank field) ≡ field ∷ []
   pub unspaced : (rest : Text) → ¬ (field ≡ 0x20 ∷ rest)
@@ -203,7 +203,7 @@ module _ {sides : List CellAlignment} (whole : List Bool) (field : Text) (fields
                   by_test true room = let fits : measure text ≤ w = grind (arith, nat_tests, room) in inl (own_is ∙ zip.0.whole fits)
                   by_test false wide = let tall : w < measure text = grind (arith, nat_tests, wide) in inr (tall, subst (IsSlicesWhere (λ line tail. Unit {0}) 0x20 text) (sym own_is) (slices_anywhere _ 0x20 text of_text (zip.0.slices tall)))
 
-  -- if it isn't blank, it has a line
+  -- a field that isn't blank has a line
   pub has_line : ¬ (field ≡ []) → 1 ≤ length lines
   has_line filled = by_columns is.table.columns first is.as_high
     where
@@ -221,7 +221,7 @@ module _ {sides : List CellAlignment} (whole : List Bool) (field : Text) (fields
           let own : length (lines_of column) ≡ length (lines_of has.column) = ap (λ (c : ColumnValue). length (lines_of c)) same in
           omega (arith, high, long, own)
 
--- a blank field has one line, whether it has a cell or not
+-- a blank field has one line, with a cell or without
 pub blank_line : {sides : List CellAlignment} (whole : List Bool) (lines : List Text) → IsOneRow sides whole ([] ∷ []) lines → length lines ≡ 1
 blank_line {sides} whole lines is = by_columns is.table.columns is.as_many is.as_high of_column
   where
@@ -252,7 +252,8 @@ blank_line {sides} whole lines is = by_columns is.table.columns is.as_many is.as
     by_columns (column ∷ other ∷ columns) one high own = absurd (omega (arith, one))
     by_columns (column ∷ []) one high own = let own_is = own column refl in omega (arith, high, own_is)
 
--- a line begins with a space or more, the front of a text, and again a space; in a whole column they have room for the text, and at the right no more than one space follows
+-- A line begins with one space or more, a prefix of the text, and a space. In a column that is kept whole there is room
+-- for the text. In a right-aligned one, at most one space follows.
 pub record BeginsWith (sides : List CellAlignment) (whole : List Bool) (field : Text) (is_alone : Bool) (line : Text) : Type 0 where
   pub left : ℕ
   pub right : ℕ
@@ -267,14 +268,14 @@ pub record BeginsWith (sides : List CellAlignment) (whole : List Bool) (field : 
   pub whole_front : slice_get whole 0 ≡ Some true → measure field ≤ 65535 → front ≡ field
 
 module _ {sides : List CellAlignment} (whole : List Bool) (field : Text) (fields : List Text) (line : Text) (below : List Text) (text_is : IsOneText field) (is : IsOneRow sides whole (field ∷ fields) (line ∷ below)) (some : ¬ (is.row.cells ≡ [])) where
-  -- so does the line of a row whose first field is this
+  -- the line of a row whose first field is this one begins in this way
   pub begins : BeginsWith sides whole field (length fields == 0) line
   begins = by_columns is.table.columns (first whole field fields (line ∷ below) text_is is some) is.columns here.0 here.1 here.2 (omega (arith, is.as_many))
     where
       here : (pieces : List Text) × AllZip (λ (p : ℕ × ColumnValue). IsPiece false (side_of is.row p) p.1 (is.width p.0) (slice_index_or (lines_in is.table is.width is.cell_lines is.row p) 0 [])) (enumerate_from 0 is.table.columns) pieces × (line ≡ join_by (λ (piece : Text). piece) [] pieces ++ [])
       here = is.drawn 0 (omega arith)
 
-      -- the first line is a front of the text
+      -- the first line is a prefix of the text
       front_of : (own : List Text) → (own ≡ field ∷ []) ⊎ ((is.width 0 < measure field) × IsSlicesWhere (λ line tail. Unit {0}) 0x20 field own) → (tail : Text) × (field ≡ slice_index_or own 0 [] ++ tail)
       front_of own (inl whole) = ([], sym (append-nil (slice_index_or own 0 []) ∙ ap (λ (ls : List Text). slice_index_or ls 0 []) whole))
       front_of [] (inr blank) = (field, refl)
@@ -295,7 +296,7 @@ module _ {sides : List CellAlignment} (whole : List Bool) (field : Text) (fields
           pad : column.padding ≡ (1, 1)
           pad = (All-head IsFieldColumn column more pads).padding
 
-          -- in a whole column it is the text
+          -- in a column that is kept whole it is the text
           by_own : min 65535 (measure field) ≤ is.width 0 → measure field ≤ 65535 → (lines_in is.table is.width is.cell_lines is.row (0, has.column) ≡ field ∷ []) ⊎ ((is.width 0 < measure field) × IsSlicesWhere (λ line tail. Unit {0}) 0x20 field (lines_in is.table is.width is.cell_lines is.row (0, has.column))) → slice_index_or (lines_in is.table is.width is.cell_lines is.row (0, has.column)) 0 [] ≡ field
           by_own room short (inl own) = ap (λ (ls : List Text). slice_index_or ls 0 []) own
           by_own room short (inr (wide, slices)) = absurd (omega (arith, room, short, wide))
@@ -353,7 +354,7 @@ module _ {sides : List CellAlignment} (whole : List Bool) (field : Text) (fields
 
 -- ---- lines with sequences
 
--- a cell after those of names has no colour
+-- a cell after the name has no colour
 plain_at : (n : ℕ) (cells : List CellValue) → All IsUncoloured (drop n cells) → is_coloured (slice_get cells n) ≡ false
 plain_at zero [] plain = refl
 plain_at zero (cell ∷ cells) plain = let own = All-head IsUncoloured cell cells plain in rw own.no_foreground (rw own.no_background (rw own.no_attributes refl))
@@ -372,14 +373,14 @@ behind_spaces (suc (suc n)) some = let more = behind_spaces (suc n) (omega arith
 after : (front line : Text) → EndsInSpace line → EndsInSpace (front ++ line)
 after front line (own, is) = (front ++ own, ap (λ (t : Text). front ++ t) is ∙ sym (append_assoc front own (codes " ")))
 
--- so does a piece without sequences
+-- a piece without sequences ends in a space
 plain_piece : {side : CellAlignment} (column : ColumnValue) → column.padding ≡ (1, 1) → (w : ℕ) (line piece : Text) → IsPiece false side column w line piece → EndsInSpace piece
 plain_piece column padding w line piece is =
     let one : column.padding.1 ≡ 1 = ap (λ (x : ℕ × ℕ). x.1) padding in
     subst EndsInSpace (sym is.drawn)
     (after is.before (line ++ is.after) (after line is.after (subst EndsInSpace (sym is.are_spaces.1) (behind_spaces is.right (omega (arith, one, is.padded.1))))))
 
--- the line of a row of one field, or of a name and one, in a style without borders
+-- the line of a row of one field, or of a name and one field, in a style without borders
 pub ends_plain : {sides : List CellAlignment} (look : Look) → look.style ≡ dashed → (has_names : Bool) (whole : List Bool) (fields : List Text) → length fields ≡ (if has_names then 2 else 1) → (line text : Text) → ((own : List Text) → AreLinesOf text own → own ≡ line ∷ []) → IsDrawingOf look false has_names sides whole (fields ∷ []) text → EndsInSpace line
 ends_plain {sides} look own_style has_names whole fields long line text cut is = by_header table.header table.rows is.is_table.header is.is_table.hold is.is_table.uncoloured is.framed.frame.is_header is.framed.frame.are_rows
   where
@@ -408,7 +409,7 @@ ends_plain {sides} look own_style has_names whole fields long line text cut is =
         ∙ subst (λ (s : TableStyle). is.lines ≡ optional_frame_line s s.top_border (widths_shown table width) ++ (is.framed.frame.header ++ (join_by (λ (block : List Text). block) (optional_frame_line s s.row_separator (widths_shown table width)) is.framed.frame.rows
         ++ optional_frame_line s s.bottom_border (widths_shown table width)))) style is.framed.frame.drawn
 
-    -- by its last piece
+    -- the line ends with its last piece
     by_pieces : (row : RowValue) → All IsUncoloured (cells_after_name has_names row) → (k : ℕ) (pieces : List Text) → AllZip (λ (p : ℕ × ColumnValue). IsPiece (is_styled (should_style table) row p) (side_of row p) p.1 (width p.0) (slice_index_or (lines_in table width lines_at row p) k [])) (enumerate_from 0 table.columns) pieces
         → line ≡ join_by (λ (piece : Text). piece) [] pieces ++ [] → EndsInSpace line
     by_pieces row plain k pieces zip made = by_names has_names table.columns (All-head (λ (own : List Text). length table.columns ≡ length own) fields [] is.is_table.as_many ∙ long) is.is_table.columns plain pieces zip made

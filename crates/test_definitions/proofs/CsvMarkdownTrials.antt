@@ -17,7 +17,7 @@ line_break_in_a_field : HasFields (codes "a\nb" ∷ []) (codes "| a<br>b |")
 unfolding chars encode
 line_break_in_a_field = refl
 
--- a field that is lost, one that is cut in two, two that are exchanged, and another letter
+-- a lost field, a field that is cut in two, two exchanged fields, and another letter
 -- false: csv_promises::markdown_output
 lost_field : ¬ (HasFields (codes "a" ∷ codes "b" ∷ []) (codes "| a |"))
 unfolding chars encode

@@ -1,4 +1,4 @@
--- Lines that the promises on files refuse, and records for which one is made.
+-- Lines that break promises about files, and records that keep the premises of one.
 use Rattle.std.proofs.Common.{◌≡◌, ◌==◌, ◌&&◌, ◌||◌, zero, suc, ◌⊎◌, inl, inr, ◌≤◌, ℕ, Bool, List, [], None, Some, Option, ◌∷◌, ◌++◌, arith, codes, append-nil, length, length-append, drop, map, refl, reverse, slice_index_or, sym, ap, ap₂, ◌∙◌, subst, true, false}
 use Rattle.std.specs.Fmt.{digits}
 use Rattle.std.specs.List.{All, list_any, slice_get, slice_split}
@@ -55,21 +55,21 @@ use Rattle.test_definitions.proofs.PlainLook.{plain_look}
 abbrev pub bold : Look
 bold = record plain_look { style = utf8_full; expansion = Auto; has_bold_header = true }
 
--- a look without a bold header and lined up decimal marks, in a style whose hyphen no row draws
+-- a look without a bold header and with aligned decimal marks, in a style whose hyphen no row draws
 abbrev unbold : Look
 unbold = record bold { has_bold_header = false; aligns_decimals = false; style = dashed }
 
--- without a header, with records expanded or not, and a limit
+-- options without a header, with records expanded or not, and with a limit
 abbrev pub asked : Expansion → Option ℕ → Options → Options
 asked expansion limit options = record options { selection = record options.selection { has_header = false; limit = limit; noun = Record }; look = record unbold { expansion = expansion } }
 
--- what is written of rows has the drawn lines alone, if no limit is asked for
+-- without a limit, the output for rows has only the drawn lines
 pub drawn_lines : (P : Text → Type 0) (options : Options) → options.look.expansion ≡ Never → options.selection.limit ≡ None → (records : List (List Text)) (text : Text) → EachDrawnLine P options records text → HasEachLine P text
 drawn_lines P options never unlimited records text is =
     subst (HasEachLine P) (sym (is.joined ∙ ap (λ (limit : Option ℕ). is.drawn ++ note_for options.selection.noun false limit is.count) unlimited ∙ append-nil is.drawn))
     (subst (λ (b : Bool). DrawsLines P options.selection.noun (drawn_rows options.selection records) b is.count is.drawn) (subst (λ (e : Expansion). MayExpand e is.is_expanded) never is.expansion) is.draws)
 
--- two lines of rows show the same number of columns
+-- two lines of rows show the same number of terminal columns
 same_columns : (first second text : Text) → slice_split (λ b. b == 0x0A) text ≡ first ∷ second ∷ [] ∷ [] → list_any (λ b. b == 0x1B) first ≡ false → list_any (λ b. b == 0x1B) second ≡ false → (options : Options) (records : List (List Text)) → IsStraight (asked Never None options) records text → measure first ≡ measure second
 same_columns first second text cut plain_first plain_second options records is =
     let own = drawn_lines (ShowsColumns is.0) (asked Never None options) refl refl records text is.1 in
@@ -99,7 +99,7 @@ narrow_columns : measure (codes "| a |") ≡ 5
 unfolding wrapping encode
 narrow_columns = refl
 
--- nor is a drawing in which a wide character counts for one column
+-- a drawing in which a wide character counts as one terminal column isn't straight
 -- false: csv_promises::straight_fitting_output, csv_promises::straight_wide_output
 wide_in_a_narrow_column : (options : Options) (records : List (List Text)) → ¬ (IsStraight (asked Never None options) records (utf8 "| 京 |\n| a |\n"))
 unfolding encode
@@ -114,7 +114,7 @@ noted_columns : measure (codes "3 of 9 records") ≡ 14
 unfolding wrapping encode
 noted_columns = refl
 
--- nor is one with a line that counts, if records aren't expanded, and none is left out
+-- nor is one with a line that counts records, if records aren't expanded and none is left out
 counted_row : (options : Options) (records : List (List Text)) → ¬ (IsStraight (asked Never None options) records (codes "| a |\nrecord 7\n"))
 counted_row options records is =
     let same = same_columns (codes "| a |") (codes "record 7") (codes "| a |\nrecord 7\n") refl refl refl options records is in absurd (omega (arith, same, narrow_columns, counted_columns))
@@ -123,7 +123,7 @@ counted_rows : (options : Options) (records : List (List Text)) → ¬ (IsStraig
 counted_rows options records is =
     let same = same_columns (codes "| a |") (codes "3 of 9 records") (codes "| a |\n3 of 9 records\n") refl refl refl options records is in absurd (omega (arith, same, narrow_columns, noted_columns))
 
--- fields that meet the conditions: an accent takes one column, Chinese is drawn as it is
+-- fields that meet the conditions: an accent takes one terminal column, and Chinese is drawn as it is
 accent_is_narrow : HasCharactersWithin 1 (utf8 "é")
 unfolding wrapping encode
 accent_is_narrow = refl
@@ -143,7 +143,7 @@ no_text_lines (line ∷ lines) are = by_line line are.joined
     by_line [] same = absurd (cc same)
     by_line (b ∷ line) same = absurd (cc same)
 
--- ASCII without line feeds, of which the first character is given and isn't a space, is one text line
+-- ASCII without line feeds, whose first character is given and isn't a space, is one text line
 one_text : (c : ℕ) (rest : Text) → ((c == 0x20) || (c == 0x0A)) ≡ false → list_any (λ b. b == 0x0A) (c ∷ rest) ≡ false → IsOneText (c ∷ rest)
 one_text c rest filled unbroken =
     record {
@@ -151,7 +151,7 @@ one_text c rest filled unbroken =
       unspaced = λ more same. let letter : c ≡ 0x20 = cc same in let blank : ((c == 0x20) || (c == 0x0A)) ≡ true = ap (λ (x : ℕ). (x == 0x20) || (x == 0x0A)) letter in absurd (cc (sym blank ∙ filled));
     }
 
--- so is a blank field
+-- a blank field is one text line
 blank_text : IsOneText []
 blank_text = record { one = refl; unspaced = λ rest same. cc same }
 
@@ -164,7 +164,7 @@ second_cell : (blank : Text) (c : ℕ) (field : Text) (fields : List Text) (row 
 unfolding field_at
 second_cell blank c field fields row {sides} hold none = let gone : c ∷ field ≡ [] = subst (λ (cells : List CellValue). MatchOption (slice_get cells 1) (c ∷ field ≡ []) (HoldsField (side_at sides 1) (c ∷ field))) none (hold.each 1) in cc gone
 
--- nothing shows no field
+-- an empty text doesn't show a field
 nothing_shows_no_field : {has_names : Bool} {sides : List CellAlignment} (look : Look) → look.style ≡ dashed → look.has_bold_header ≡ false → IfSome look.width (λ w. w ≤ 65535) → (rest : List Text) → (whole : List Bool) → ¬ (ShowsRows look false has_names sides whole ((codes "a" ∷ rest) ∷ []) [])
 nothing_shows_no_field look style weight narrow rest whole (inl none) = cc none.0
 nothing_shows_no_field look style weight narrow rest whole (inr is) =
@@ -176,11 +176,11 @@ nothing_shows_no_field look style weight narrow rest whole (inr is) =
 only : (line text : Text) → slice_split (λ b. b == 0x0A) text ≡ line ∷ [] ∷ [] → (own : List Text) → AreLinesOf text own → own ≡ line ∷ []
 only line text cut own are = one_line line own (sym cut ∙ found text own are)
 
--- one row of fields, which this line shows
+-- this line shows one row of fields
 abbrev ShowsRow : List Text → Text → Type 0
 ShowsRow fields line = IsDrawingOf unbold false false [] [] (fields ∷ []) (line ++ codes "\n")
 
--- an amount isn't shown by another one, whose hyphen a frame could have
+-- another amount doesn't show an amount, though a frame may have its hyphen
 other_amount : ¬ (ShowsRow (codes "12.80" ∷ []) (codes " -12.80 "))
 other_amount is =
     let row = one_row unbold refl refl tt [] (codes "12.80" ∷ []) (codes " -12.80 " ∷ []) (codes " -12.80 \n") (only (codes " -12.80 ") (codes " -12.80 \n") refl) is in
@@ -194,7 +194,7 @@ other_amount is =
         let hyphen : 0x2D ≡ x = cc made in
         let one : 0x31 ≡ x = cc fronts in absurd (omega (arith, hyphen, one))
 
--- a field doesn't stand in a column to the left of its own, where the field there is blank
+-- a field isn't in the column to the left of its own, in which the field is blank
 wrong_column : ¬ (ShowsRow ([] ∷ codes "1280" ∷ []) (codes " 1280    "))
 wrong_column is =
     let row = one_row unbold refl refl tt [] ([] ∷ codes "1280" ∷ []) (codes " 1280    " ∷ []) (codes " 1280    \n") (only (codes " 1280    ") (codes " 1280    \n") refl) is in
@@ -206,7 +206,7 @@ wrong_column is =
     by_left right others tail zero [] made fronts = let letter : ◌≡◌ {A = ℕ} 0x31 0x20 = cc made in absurd (omega (arith, letter))
     by_left right others tail zero (x ∷ front) made fronts = cc fronts
 
--- a number isn't split over lines in a whole column
+-- a number isn't split over lines in a column that is kept whole
 split_number : ¬ (IsDrawingOf unbold false false [] (true ∷ []) ((codes "12" ∷ []) ∷ []) (codes " 1 \n 2 \n"))
 split_number is =
     let row = one_row unbold refl refl tt (true ∷ []) (codes "12" ∷ []) (codes " 1 " ∷ codes " 2 " ∷ []) (codes " 1 \n 2 \n") (λ own are. two_lines (codes " 1 ") (codes " 2 ") own (found (codes " 1 \n 2 \n") own are)) is in
@@ -220,7 +220,7 @@ split_number is =
     by_left right others (suc left) front made whole = let letter : ◌≡◌ {A = ℕ} 0x31 0x20 = cc made in absurd (omega (arith, letter))
     by_left right others zero front made whole = let same = made ∙ ap (λ (t : Text). (spaces 1 ++ (t ++ spaces (suc right))) ++ others) whole in let letter : ◌≡◌ {A = ℕ} 0x20 0x32 = cc same in absurd (omega (arith, letter))
 
--- a number isn't at the left of a column that is at the right
+-- a number isn't left-aligned in a right-aligned column
 number_at_the_left : ¬ (IsDrawingOf unbold false false (Right ∷ []) [] ((codes "7" ∷ []) ∷ []) (codes " 7  \n"))
 number_at_the_left is =
     let row = one_row unbold refl refl tt [] (codes "7" ∷ []) (codes " 7  " ∷ []) (codes " 7  \n") (only (codes " 7  ") (codes " 7  \n") refl) is in
@@ -233,7 +233,7 @@ number_at_the_left is =
     by_left zero (a ∷ []) tail fronts made = cc made
     by_left zero (a ∷ b ∷ front) tail fronts made = cc fronts
 
--- nor is one without the spaces after it that line up its decimal mark
+-- a number isn't drawn without the spaces after it that align its decimal mark
 mark_out_of_line : ¬ (IsDrawingOf unbold false false (Right ∷ []) (true ∷ []) ((codes "22  " ∷ []) ∷ []) (codes "   22 \n"))
 mark_out_of_line is =
     let row = one_row unbold refl refl tt (true ∷ []) (codes "22  " ∷ []) (codes "   22 " ∷ []) (codes "   22 \n") (only (codes "   22 ") (codes "   22 \n") refl) is in
@@ -247,7 +247,7 @@ mark_out_of_line is =
     by_left (suc (suc zero)) right others made = cc made
     by_left (suc (suc (suc left))) right others made = let letter : ◌≡◌ {A = ℕ} 0x32 0x20 = cc made in absurd (omega (arith, letter))
 
--- those spaces, in a column of numbers at the right, unless the left is asked for
+-- a right-aligned column of numbers has these spaces, unless it is set to the left
 amounts : List (List Text)
 amounts = (codes "1.5" ∷ []) ∷ (codes "22" ∷ []) ∷ []
 
@@ -270,19 +270,19 @@ sides_of_words : sides_for false (first_column []) ((codes "a" ∷ []) ∷ amoun
 unfolding amounts first_column chars digits encode ucd_category field_at is_neutral is_number
 sides_of_words = refl
 
--- nor in a column of words, unless the right is asked for
+-- a column of words has none, unless it is set to the right
 right_side_of_words : sides_for false (record { drawn = 0 ∷ []; right = 0 ∷ []; left = [] }) ((codes "a" ∷ []) ∷ amounts) ≡ Right ∷ []
 unfolding amounts chars digits encode ucd_category field_at is_neutral is_number
 right_side_of_words = refl
 
--- without a width marks are lined up if that is asked for, and never if it isn't
+-- without a width, marks are aligned if that is requested; they never are if it isn't
 marks_are_left_as_they_are : ¬ (AreLinedUp (record unbold { aligns_decimals = true }) false)
 marks_are_left_as_they_are is = true≢false (sym (is.without_width refl))
 
 marks_are_lined_up_unasked : ¬ (AreLinedUp unbold true)
 marks_are_lined_up_unasked is = true≢false (is.unasked refl)
 
--- columns of numbers and dates are whole under `auto`, and that of record numbers, if there is a row
+-- with `auto`, columns of numbers and dates are kept whole, and so is that of record numbers, if there is a row
 numbers_and_words : List (List Text)
 numbers_and_words = (codes "12" ∷ codes "a" ∷ []) ∷ (codes "2026-05-02" ∷ []) ∷ []
 
@@ -290,12 +290,12 @@ whole_under_auto : map (λ rows. whole_for (Some 9) Auto true (1 ∷ 0 ∷ []) r
 unfolding numbers_and_words chars encode ucd_category field_at is_neutral is_number
 whole_under_auto = refl
 
--- none is otherwise, but all without a width
+-- otherwise no column is kept whole under a width, and all are without one
 whole_otherwise : map (λ width. whole_for width Never true (1 ∷ 0 ∷ []) numbers_and_words) (Some 9 ∷ None ∷ []) ≡ [] ∷ (true ∷ true ∷ true ∷ []) ∷ []
 unfolding numbers_and_words
 whole_otherwise = refl
 
--- two numbers in columns next to each other aren't joined
+-- two numbers in neighbouring columns aren't joined
 joined_numbers : ¬ (ShowsRow (codes "2024" ∷ codes "123" ∷ []) (codes " 2024123 "))
 joined_numbers is =
     let row = one_row unbold refl refl tt [] (codes "2024" ∷ codes "123" ∷ []) (codes " 2024123 " ∷ []) (codes " 2024123 \n") (only (codes " 2024123 ") (codes " 2024123 \n") refl) is in
@@ -311,7 +311,7 @@ joined_numbers is =
     by_left right tail others zero (a ∷ b ∷ c ∷ d ∷ []) made fronts = let letter : ◌≡◌ {A = ℕ} 0x31 0x20 = cc made in absurd (omega (arith, letter))
     by_left right tail others zero (a ∷ b ∷ c ∷ d ∷ e ∷ front) made fronts = cc fronts
 
--- a record of one blank field has a line of its own, and no other
+-- a record of one blank field has one line of its own
 blank_line_of : (lines : List Text) (text : Text) → ((own : List Text) → AreLinesOf text own → own ≡ lines) → IsDrawingOf unbold false false [] [] (([] ∷ []) ∷ []) text → length lines ≡ 1
 blank_line_of lines text cut is = blank_line [] lines (one_row unbold refl refl tt [] ([] ∷ []) lines text cut is)
 
@@ -324,7 +324,7 @@ one_more_blank_line (inl none) = cc none.0
 one_more_blank_line (inr is) =
     let one = blank_line_of (codes "   " ∷ codes "   " ∷ []) (codes "   \n   \n") (λ own are. two_lines (codes "   ") (codes "   ") own (found (codes "   \n   \n") own are)) is in absurd (omega (arith, one))
 
--- and gains no space
+-- a text gains no space
 gained_space : ¬ (ShowsRow (codes "therapist" ∷ []) (codes " the rapist "))
 gained_space is =
     let row = one_row unbold refl refl tt [] (codes "therapist" ∷ []) (codes " the rapist " ∷ []) (codes " the rapist \n") (only (codes " the rapist ") (codes " the rapist \n") refl) is in
@@ -342,7 +342,7 @@ gained_space is =
         let blank : 0x20 ≡ d = cc made in
         let letter : 0x72 ≡ d = cc fronts in absurd (omega (arith, blank, letter))
 
--- nor hidden: a line holds no sequence but those of bold
+-- a text isn't hidden: a line has only the sequences of bold
 hidden : ¬ (IsInBold (codes " a ") (codes "\u{1b}[8m a "))
 hidden is = by_parts is refl refl
   where
@@ -354,7 +354,7 @@ hidden is = by_parts is refl refl
         let escape : x ≡ 0x1B = cc same in absurd (omega (arith, space, escape))
     by_parts (bold_part part line styled own) line_is same = let letter : ◌≡◌ {A = ℕ} 0x31 0x38 = ap (λ (t : Text). slice_index_or t 2 0) same in absurd (omega (arith, letter))
 
--- and what begins in bold ends so
+-- a line that begins in bold ends in it
 left_open : ¬ (IsInBold (codes "a") (codes "\u{1b}[1ma"))
 left_open is = by_parts is refl refl
   where
@@ -377,11 +377,11 @@ ends_in_m : (line front : Text) → line ≡ front ++ codes "m" → ¬ ((own : T
 ends_in_m line front is (own, ends) =
     let letter : ◌≡◌ {A = ℕ} 0x6D 0x20 = ap (λ (t : Text). slice_index_or t 0 0) (sym (reverse-append front (codes "m")) ∙ ap reverse (sym is ∙ ends) ∙ reverse-append own (codes " ")) in absurd (omega (arith, letter))
 
--- one record of a field `a` below a name `a`
+-- one expanded record of a field `a` with the name `a`
 abbrev OneExpanded : Text → Type 0
 OneExpanded = AreExpanded (ShowsPairs unbold (codes "a" ∷ []) (0 ∷ [])) Record (Some 1) 1 ((codes "a" ∷ []) ∷ [])
 
--- it isn't the second one, and not without its line
+-- it has its own number, and its heading
 another_number : ¬ (OneExpanded (codes "record 2 of 1\n a  a \n"))
 unfolding digits
 another_number (own, rest, is, shows, more) = let letter : ◌≡◌ {A = ℕ} 0x32 0x31 = ap (λ (t : Text). slice_index_or t 7 0) is in absurd (omega (arith, letter))
@@ -402,7 +402,7 @@ no_name (own, rest, is, shows, more) = by_own own (ap (drop 14) is) shows
     by_own (b ∷ own) same shows = absurd (cc same)
     by_own [] same shows = nothing_shows_no_field unbold refl refl tt (cleaned false (codes "a") ∷ []) (true ∷ true ∷ []) (subst (λ (name : Text). ShowsRows unbold false true [] (true ∷ true ∷ []) ((name ∷ cleaned false (codes "a") ∷ []) ∷ []) []) a_stays shows)
 
--- its field isn't in bold, as its name is, and without names no row is
+-- its field isn't in bold, though its name is, and without names no row is
 abbrev bold_names : Look
 bold_names = record unbold { has_bold_header = true }
 
@@ -427,11 +427,11 @@ split_date keeps =
     let whole : 10 ≤ 6 = All-head (λ line. is_nowrap line ≡ true → framed_width dashed (4 ∷ measure line ∷ []) ≤ 18 → measure line ≤ 6) (codes "2026-05-02") [] (keeps date_cell refl) refl room in
     omega (arith, whole)
 
--- nothing stands behind the last record
+-- no text follows the last record
 text_behind : ¬ (AreExpanded (ShowsPairs unbold [] []) Record (Some 1) 2 [] (codes " a \n"))
 text_behind is = cc is
 
--- records are expanded where that is asked for, and not where it is forbidden
+-- records are always expanded if that is requested, and never if it is excluded
 expanded_never : ¬ (MayExpand Never true)
 expanded_never is = cc is
 
@@ -443,7 +443,7 @@ rows_always is = cc is
 abbrev expanded : Options → Options
 expanded options = asked Always None options
 
--- no record is lost, where all columns are drawn
+-- no record is lost if all columns are drawn
 abbrev in_rows : Look
 in_rows = record unbold { expansion = Never }
 
@@ -471,7 +471,7 @@ lost_record options chosen dropped unnumbered is =
     first : positions_in (asked Never None options) [] ((codes "a" ∷ []) ∷ []) ≡ 0 ∷ []
     first = rw chosen (rw dropped refl)
 
--- nor is a text that a program in C gives in a row
+-- nor is a text that a program in C passes in a row
 -- false: comfy_c::drawn_rows
 abbrev one_column_of : ColumnsValue → Layout
 one_column_of columns = record { columns = columns; look = in_rows; selection = record { has_header = false; is_numbered = false; limit = None; noun = Row } }
@@ -482,7 +482,7 @@ lost_text MayCount columns first is =
     (subst (ShowsFields false in_rows (one_column_of columns).selection columns None ((codes "a" ∷ []) ∷ []) is.count) (sym (is.joined ∙ append-nil is.drawn))
     (subst (λ (b : Bool). ShowsFields b in_rows (one_column_of columns).selection columns None ((codes "a" ∷ []) ∷ []) is.count is.drawn) is.expansion is.draws))
 
--- fields behind their numbers, and without
+-- fields after their numbers, and without numbers
 rows_after_numbers : map (λ is_numbered. all_rows is_numbered no_marks (1 ∷ []) (Some (codes "a" ∷ codes "b" ∷ [])) ((codes "x" ∷ codes "y" ∷ []) ∷ (codes "z" ∷ []) ∷ [])) (true ∷ false ∷ [])
     ≡ ((codes "#" ∷ codes "b" ∷ []) ∷ (codes "1" ∷ codes "y" ∷ []) ∷ (codes "2" ∷ [] ∷ []) ∷ []) ∷ ((codes "b" ∷ []) ∷ (codes "y" ∷ []) ∷ ([] ∷ []) ∷ []) ∷ []
 unfolding chars digits field_at encode
@@ -492,7 +492,7 @@ rows_after_numbers = refl
 abbrev first_of_two : Options → Text → Type 0
 first_of_two options text = ShowsRecords (asked Never (Some 1) options) ((codes "a" ∷ []) ∷ (codes "b" ∷ []) ∷ []) text
 
--- before its last nine characters stands `2`, or a space
+-- `2` or a space precedes its last nine characters
 abbrev the_count : Text → ℕ
 the_count text = slice_index_or (reverse text) 9 0
 
@@ -508,14 +508,14 @@ neither : (n : ℕ) → ¬ (n ≡ 0x32) → ¬ (n ≡ 0x20) → ¬ ((n ≡ 0x32)
 neither n two more (inl is) = two is
 neither n two more (inr is) = more is
 
--- so it doesn't count three, and isn't missing
+-- so it doesn't count three, and it isn't missing
 three_records : (options : Options) → ¬ (first_of_two options (codes " a \n1 of 3 records\n"))
 three_records options is = neither 0x33 (λ same. absurd (omega (arith, same))) (λ same. absurd (omega (arith, same))) (counts_two options (codes " a \n1 of 3 records\n") is)
 
 no_line_below : (options : Options) → ¬ (first_of_two options (codes " a \n"))
 no_line_below options is = neither 0 (λ same. absurd (omega (arith, same))) (λ same. absurd (omega (arith, same))) (counts_two options (codes " a \n") is)
 
--- nor are records called rows: before the last two characters is `d` of `records`, or `r` of `more`
+-- records aren't called rows: `d` of `records`, or `r` of `more`, precedes the last two characters
 called_so : (options : Options) (text : Text) → first_of_two options text → (slice_index_or (reverse text) 2 0 ≡ 0x64) ⊎ (slice_index_or (reverse text) 2 0 ≡ 0x72)
 unfolding digits
 called_so options text is = by_count is.count is.is_count is.joined
@@ -531,7 +531,7 @@ neither_noun n one other (inr is) = other is
 called_rows : (options : Options) → ¬ (first_of_two options (codes " a \n1 of 2 rows\n"))
 called_rows options is = neither_noun 0x77 (λ same. absurd (omega (arith, same))) (λ same. absurd (omega (arith, same))) (called_so options (codes " a \n1 of 2 rows\n") is)
 
--- a record isn't one of two
+-- a single record isn't one of two
 -- false: csv_promises::output_with_all_fields
 another_count : (options : Options) → ¬ (ShowsRecords (expanded options) ((codes "a" ∷ []) ∷ []) (codes "record 1 of 2\n 1  a \n"))
 unfolding digits
@@ -544,7 +544,7 @@ another_count options is =
         let same : codes "record 1 of 2\n 1  a \n" ≡ record_line Record 1 (Some 1) ++ (own ++ rest) = made ∙ is ∙ ap (λ (m : ℕ). record_line Record 1 (Some m) ++ (own ++ rest)) one in
         let letter : ◌≡◌ {A = ℕ} 0x32 0x31 = ap (λ (t : Text). slice_index_or t 12 0) same in absurd (omega (arith, letter))
 
--- and if a count is asked for, it isn't left out
+-- if a count is requested, it isn't left out
 count_is_missing : (options : Options) → options.counts_all ≡ true → ¬ (first_of_two options (codes " a \nfirst 1 record; there are more\n"))
 unfolding digits
 count_is_missing options counts is = by_count is.count is.is_count is.joined
@@ -556,7 +556,7 @@ count_is_missing options counts is = by_count is.count is.is_count is.joined
 
 -- ---- texts that a terminal gets
 
--- text of which a character is harmful isn't shown
+-- a text with a harmful character isn't shown
 harmful_is_not_shown : (visible : Text) (cs : List ℕ) → visible ≡ encode_utf8_all cs → list_any is_harmful cs ≡ true → ¬ (NoCharPasses is_harmful visible)
 harmful_is_not_shown visible cs is some none = true≢false (sym some ∙ by_characters cs (subst (NonePass is_harmful) (encodes_same none.0 cs (none.1 ∙ is)) none.2))
   where
@@ -573,7 +573,7 @@ bell_is_rung : (look : Look) → ¬ (IsHarmlessFor look (0x07 ∷ []))
 unfolding encode
 bell_is_rung look is = harmful_is_not_shown is.visible (0x07 ∷ []) (shows_itself is.shows refl) refl is.harmless
 
--- nothing is hidden, under a bold header either: what is visible holds no ESC
+-- nothing is hidden, also with a bold header: the visible text has no ESC
 hidden_output : ¬ (IsHarmlessFor bold (codes "\u{1b}[8ma"))
 hidden_output is = by_parts (is.in_bold (inl refl)) refl is.harmless
   where
@@ -585,14 +585,14 @@ hidden_output is = by_parts (is.in_bold (inl refl)) refl is.harmless
         let clear = (or_parts (x == 0x1B) _ (none_by_characters is_harmful 0x1B (omega arith) refl (x ∷ (part ++ line)) none)).0 in true≢false (sym (ap (λ (n : ℕ). n == 0x1B) escape) ∙ clear)
     by_parts (bold_part part line styled own) same none = let letter : ◌≡◌ {A = ℕ} 0x31 0x38 = ap (λ (t : Text). slice_index_or t 2 0) same in absurd (omega (arith, letter))
 
--- and without one nothing is in bold
+-- without a bold header nothing is in bold
 bold_without_a_header : ¬ (IsHarmlessFor unbold (codes "\u{1b}[1ma\u{1b}[0m"))
 bold_without_a_header is =
     let same = is.plain (inl (refl, refl)) in
     let clear = none_by_characters is_harmful 0x1B (omega arith) refl is.visible is.harmless in
     true≢false (ap (list_any (λ b. b == 0x1B)) same ∙ clear)
 
--- nor is bold open at the end of a line, if colours of fields are kept
+-- bold isn't open at the end of a line, if colours of fields are kept
 open_at_the_end : ¬ (IsHarmlessFor (record unbold { has_sequences = true }) (codes "| \u{1b}[1mab |\n"))
 open_at_the_end is =
     let own = is.closed refl in
@@ -608,7 +608,7 @@ c1_is_harmful (visible, shows, none) = harmful_is_not_shown visible (codes "\u{9
 
 -- ---- messages
 
--- a line of which one character isn't tame
+-- a line with a harmful character
 wild : (cs : List ℕ) → list_any is_replaced cs ≡ true → ¬ (IsTameLine (encode_utf8_all cs ++ codes "\n"))
 wild cs some (line, made, none) = true≢false (sym some ∙ by_characters cs (subst (NonePass is_replaced) (encodes_same none.0 cs (none.1 ∙ sym (append_cancel_right (encode_utf8_all cs) line (codes "\n") made))) none.2))
   where
@@ -631,7 +631,7 @@ two_lines_are_wild = wild (codes "a\nb") refl
 -- ---- fields that stay
 
 -- false: csv_promises::plain_fields_stay
--- an accent stays, a control character is replaced
+-- an accent stays, and a control character is replaced
 accent_stays : StaysAsItIs false (utf8 "é") → cleaned false (utf8 "é") ≡ utf8 "é"
 unfolding chars encode
 accent_stays stays = stays (0xE9 ∷ [], (refl, refl)) refl

@@ -1,4 +1,4 @@
--- Lines that the promise on a width refuses, lines that it allows, and the columns of frames.
+-- Lines that break the promise about a width, lines that keep it, and the columns of frames.
 use Rattle.std.proofs.Common.{◌≡◌, inl, ◌+◌, ℕ, Bool, true, false, List, [], ◌∷◌, None, Some, arith, codes, length, refl, sym, ap, ◌∙◌, subst}
 use Rattle.std.specs.List.{All, slice_split}
 use Rattle.std.specs.Prelude.{◌==◌, String, string_bytes}
@@ -21,7 +21,7 @@ use Rattle.test_definitions.proofs.PromiseTrials.{shows_itself, ten}
 
 -- ---- lines
 
--- no word chooses a column, and none is left out
+-- no word chooses or drops a column
 abbrev IsAll : Options → Type 0
 IsAll options = (options.columns.chosen.items ≡ []) × (options.columns.dropped.items ≡ [])
 
@@ -31,7 +31,7 @@ kept P options never unlimited records text line cut is =
     let own = drawn_lines P options never unlimited records text is in
     All-head P line [] (subst (All P) (one_line line own.lines (sym cut ∙ found text own.lines own.are)) own.each)
 
--- in a width of eight, a table of one column, which takes five
+-- under a width of eight, a table of one column takes five terminal columns
 abbrev in_eight : Options → Bool → Options
 in_eight options is_filled = record options { selection = record options.selection { has_header = false; limit = None; is_numbered = false }; look = record bold { expansion = Never; width = Some 8; fills_width = is_filled } }
 
@@ -45,7 +45,7 @@ a_is_narrow : All (All (HasCharactersWithin 1)) one_field
 unfolding wrapping encode
 a_is_narrow = All-from_recursion (All (HasCharactersWithin 1)) one_field (All-from_recursion (HasCharactersWithin 1) (codes "a" ∷ []) (refl, tt), tt)
 
--- ten columns are more than a width of eight, and more than the frame takes
+-- ten terminal columns are more than a width of eight, and more than the frame takes
 -- false: csv_promises::output_within
 wide_line : (options : Options) → IsAll options → ¬ (KeepsItsWidth (in_eight options false) one_field (codes "0123456789\n"))
 wide_line options all is =
@@ -53,7 +53,7 @@ wide_line options all is =
     let wide : own.columns ≡ 10 = sym own.shows.2 ∙ ap measure (shows_itself own.shows.1 refl) ∙ ten in
     absurd (omega (arith, own.within, wide, one_column_room options false all))
 
--- if the width is filled, two columns are less than eight
+-- if the width is filled, two terminal columns are less than eight
 narrow_line : (options : Options) → IsAll options → ¬ (KeepsItsWidth (in_eight options true) one_field (codes "ba\n"))
 narrow_line options all is =
     let own = kept (KeepsTo 8 (frame_room (framed_columns (in_eight options true) one_field)) true) (in_eight options true) refl refl one_field (codes "ba\n") (codes "ba") refl (is 8 refl (inl a_is_narrow)) in
@@ -61,11 +61,11 @@ narrow_line options all is =
     let eight = own.exact refl (omega (arith, one_column_room options true all)) in
     absurd (omega (arith, eight, two))
 
--- a frame that has no room in the width is drawn beyond it
+-- a frame without room in the width is wider than the width
 frame_line : KeepsTo 1 2 true (codes "ba")
 frame_line = record { columns = 2; shows = (codes "ba", byte 0x62 (codes "a") (codes "a") refl (byte 0x61 [] [] refl nothing), two_columns); within = omega arith; exact = λ filled room. absurd (omega (arith, room)) }
 
--- a line that ends with no line feed is none
+-- a text without a line feed at its end has no lines
 open_line : (P : Text → Type 0) → ¬ (HasEachLine P (codes "a"))
 open_line P is = unended is.lines is.are
 
@@ -78,30 +78,30 @@ three_names = (codes "a" ∷ codes "b" ∷ codes "c" ∷ []) ∷ []
 abbrev three_columns : List (List Text)
 three_columns = (codes "a" ∷ codes "b" ∷ codes "c" ∷ []) ∷ (codes "d" ∷ codes "e" ∷ []) ∷ []
 
--- a name chooses one of three columns, an open range those from one on
+-- a name chooses one of three columns, and an open range the columns from one on
 one_name : {A : Type 0} (word : String A) → string_bytes word ≡ codes "b" → positions_by (codes "a" ∷ codes "b" ∷ codes "c" ∷ []) 3 (word ∷ []) ≡ 1 ∷ []
 one_name word is = rw is refl
 
 range : {A : Type 0} (word : String A) → string_bytes word ≡ codes "b-" → positions_by (codes "a" ∷ codes "b" ∷ codes "c" ∷ []) 3 (word ∷ []) ≡ 1 ∷ 2 ∷ []
 range word is = rw is refl
 
--- what a frame takes under a header
+-- the width of a frame below a header
 abbrev room_by : Options → Expansion → Bool → List (List Text) → ℕ
 room_by options expansion is_numbered records =
     frame_room (framed_columns (record options { selection = record options.selection { has_header = true; limit = None; is_numbered = is_numbered }; look = record bold { expansion = expansion } }) records)
 
--- so all three are drawn
+-- all three are drawn
 all_are_drawn : (options : Options) → IsAll options → (rows : List (List Text)) → count_of (codes "a" ∷ codes "b" ∷ codes "c" ∷ []) rows ≡ 3 → (more : ℕ) → frame_room (length (positions_in options (codes "a" ∷ codes "b" ∷ codes "c" ∷ []) rows) + more) ≡ frame_room (3 + more)
 all_are_drawn options (chosen, dropped) rows three more = rw chosen (rw dropped (rw three refl))
 
--- `|_a_|_b_|_c_|` are thirteen columns, and the numbers take four more
+-- `|_a_|_b_|_c_|` takes thirteen terminal columns, and the numbers take four more
 unfolded : (options : Options) → IsAll options → room_by options Never false three_columns ≡ 13
 unfolded options all = all_are_drawn options all ((codes "d" ∷ codes "e" ∷ []) ∷ []) refl 0
 
 with_numbers : (options : Options) → IsAll options → room_by options Never true three_columns ≡ 17
 with_numbers options all = all_are_drawn options all ((codes "d" ∷ codes "e" ∷ []) ∷ []) refl 1
 
--- a name and a field take nine, and they are drawn where there is no room; but for a header alone
+-- a name and a field take nine, and are drawn if there is no room, except for a header alone
 expanded : (options : Options) → room_by options Always true three_columns ≡ 9
 expanded options = refl
 

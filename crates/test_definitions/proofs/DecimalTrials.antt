@@ -1,4 +1,4 @@
--- Marks of columns, tried.
+-- Trials of the decimal marks of columns.
 use Rattle.std.proofs.Common.{◌≡◌, ◌⊎◌, ◌+◌, ℕ, List, [], ◌∷◌, Option, Some, None, arith, codes, inl, inr, map, refl, true}
 use Prim.Native.String.{String}
 use Rattle.std.specs.Option.{option_map_or}
@@ -9,7 +9,7 @@ use Rattle.csv_records.specs.Decimals.{digits_in, fraction_len, points_of, space
 use Rattle.csv_records.specs.declared.decimals.DecimalMark.TheVariants.{Point}
 use Rattle.csv_tables.specs.Laws.{HasSpacesBehind}
 
--- the spaces behind each field of a column; none where it has no mark
+-- the spaces after each field of a column, or `None` without a mark
 abbrev spaces_in : List String → Option (List ℕ)
 spaces_in words = let fields = map (λ (word : String). codes word) words in option_map_or (λ points. Some (map (spaces_behind points) fields)) (points_of fields) None
 
@@ -18,7 +18,7 @@ pub below_each_other : map spaces_in (("1.5" ∷ "22.25" ∷ "-3" ∷ "1000" ∷
 unfolding chars lib.Utf8.encode ucd_category is_neutral is_number
 below_each_other = refl
 
--- no mark is decided; both are; one field isn't read with it; a unit, a parenthesis, an exponent or a point is last
+-- no mark is decided; both are; one field isn't read with it; or a unit, a parenthesis, an exponent or a point is last
 pub as_they_stand : map spaces_in (("1,234" ∷ "12" ∷ []) ∷ ("1,5" ∷ "1.5" ∷ []) ∷ ("1.234.567" ∷ "1.5" ∷ []) ∷ ("1.5" ∷ "7%" ∷ []) ∷ ("1.5" ∷ "(2)" ∷ []) ∷ ("1.5" ∷ "1e5" ∷ []) ∷ ("1.5" ∷ "2." ∷ []) ∷ ("1.5" ∷ "2 " ∷ []) ∷ ("1.5" ∷ "x" ∷ []) ∷ [])
     ≡ None ∷ None ∷ None ∷ None ∷ None ∷ None ∷ None ∷ None ∷ None ∷ []
 unfolding chars lib.Utf8.encode ucd_category is_neutral is_number
@@ -26,12 +26,12 @@ as_they_stand = refl
 
 -- ---- the law
 
--- a space in front isn't one behind
+-- a space at the front isn't one at the end
 -- false: csv_tables::laws::decimal_marks_stand_below_each_other
 space_in_front : ¬ (HasSpacesBehind (codes "7") (codes " 7"))
 space_in_front (n, same) = let is : ◌≡◌ {A = ℕ} 0x20 0x37 = cc same in omega (arith, is)
 
--- a fraction that is longer than the longest has no spaces to bring it there
+-- no spaces align a fraction that is longer than the longest one
 -- false: csv_tables::laws::decimal_marks_stand_below_each_other
 longer_fraction : ¬ ((is_neutral (codes "1.234") ≡ true) ⊎ (fraction_len (halves 0x2E (digits_in (codes "1.234"))) + spaces_behind (record { mark = Point; longest = 2 }) (codes "1.234") ≡ 2))
 unfolding chars lib.Utf8.encode ucd_category is_neutral is_number

@@ -1,4 +1,4 @@
--- The drawing of small tables, computed.
+-- The drawings of small tables, computed.
 use Rattle.std.proofs.Common.{◌≡◌, [], ◌∷◌, refl, Some}
 use Rattle.comfy_parts.specs.CellValue.{plain_row}
 use Rattle.comfy_parts.specs.Presets.{style_of, ascii_full, ascii_no_borders, ascii_borders_only, ascii_horizontal_only, ascii_markdown, utf8_full, nothing}
@@ -57,7 +57,7 @@ all_hidden : IsDrawingOf
 unfolding wrapping trim_end
 all_hidden = (13 ∷ 4 ∷ [], at_widths refl refl refl, refl)
 
--- only a fill is set in the separator, and only side borders in the content
+-- only the separator has a fill, and only the content has side borders
 abbrev sides_and_a_separator : TableStyle
 sides_and_a_separator = style_of "____" "|_|" "_-__" "|_|" "____" "____"
 
@@ -73,7 +73,7 @@ trimmed_lines : trimmed_text_of (drawing (greetings sides_and_a_separator) (15 �
 unfolding wrapping trim_end
 trimmed_lines = refl
 
--- a top border with a fill alone has no junctions, though it has side borders
+-- a top border that has only a fill has no junctions, though it has side borders
 trimmed_top_border : trimmed_text_of (drawing (greetings (style_of "_=__" "|_|" "_-__" "|_|" "____" "____")) (15 ∷ 5 ∷ 19 ∷ [])) ≡ text_of (texts
     (" ============================================="
     ∷ "| Hello            there  again               |"
@@ -83,7 +83,7 @@ trimmed_top_border : trimmed_text_of (drawing (greetings (style_of "_=__" "|_|" 
 unfolding wrapping trim_end
 trimmed_top_border = refl
 
--- a left character alone makes a line, and a left border
+-- a left character makes a line and a left border
 left_character_alone : IsDrawingOf (rows_of (style_of "*___" "___" "____" "___" "____" "____") (("a" ∷ []) ∷ [])) (texts ("*   " ∷ "  a " ∷ []))
 unfolding wrapping trim_end
 left_character_alone = (1 ∷ [], at_widths refl refl refl, refl)
@@ -148,7 +148,7 @@ paddings : IsDrawingOf
 unfolding wrapping trim_end
 paddings = (9 ∷ 9 ∷ 11 ∷ [], at_widths refl refl refl, refl)
 
--- a cell's alignment goes before its column's
+-- a cell's alignment overrides its column's
 alignments : drawing
     (with_alignments (Left ∷ Center ∷ Right ∷ []) (with_row (plain_row
     (aligned_cell Right "Right" ∷ aligned_cell Left "Left" ∷ aligned_cell Center "Center" ∷ []))

@@ -1,4 +1,4 @@
--- Which encoding an input has, and its text: worked rows of bytes.
+-- The encoding and the text of inputs: examples of bytes.
 use Rattle.std.proofs.Common.{◌≡◌, [], ◌∷◌, Some, None, map, refl}
 use Rattle.std.specs.Char.Utf16.{utf16_chars}
 use lib.Utf8.{encode}
@@ -13,13 +13,13 @@ found : map (encoding_of None) ((0xFF ∷ 0xFE ∷ 0x61 ∷ 0x00 ∷ []) ∷ (0x
     ≡ Utf16 ∷ Utf16 ∷ Utf8 ∷ Utf8 ∷ Utf8 ∷ Utf8 ∷ []
 found = refl
 
--- what is asked for is taken, whatever mark there is
+-- the encoding that is set is used, whatever mark there is
 asked_for : map (λ invocation. encoding_of (Some invocation) (0xFF ∷ 0xFE ∷ [])) (Utf8 ∷ Cp1252 ∷ Utf16 ∷ []) ≡ Utf8 ∷ Cp1252 ∷ Utf16 ∷ []
 asked_for = refl
 
 -- ---- Windows-1252
 
--- a letter, the first and the last byte of the table, quotes, and bytes that are characters of the same number
+-- a letter, the first and the last byte of the table, quotes, and bytes with the same number as their character
 of_cp1252 : map cp1252_character (0x41 ∷ 0x7F ∷ 0x80 ∷ 0x8E ∷ 0x93 ∷ 0x94 ∷ 0x99 ∷ 0x9F ∷ 0xA0 ∷ 0xE9 ∷ 0xFF ∷ []) ≡ 0x41 ∷ 0x7F ∷ 0x20AC ∷ 0x017D ∷ 0x201C ∷ 0x201D ∷ 0x2122 ∷ 0x0178 ∷ 0xA0 ∷ 0xE9 ∷ 0xFF ∷ []
 of_cp1252 = refl
 
@@ -34,7 +34,7 @@ text_of_cp1252 = refl
 
 -- ---- UTF-16
 
--- `a€` with a mark in either order, and without one: the mark is no part of the text
+-- `a€` with a mark in either order, and without one: the mark isn't part of the text
 abbrev euro : Text
 euro = 0x61 ∷ 0xE2 ∷ 0x82 ∷ 0xAC ∷ []
 
@@ -50,7 +50,7 @@ without_mark : IsDecoded Utf16 0 (0x61 ∷ 0x00 ∷ 0xAC ∷ 0x20 ∷ []) euro
 unfolding utf16_chars encode
 without_mark = record { characters = 0x61 ∷ 0x20AC ∷ []; are_all = refl; spell = refl }
 
--- a mark alone is an empty text, and so is nothing
+-- a mark alone is an empty text, and so is an empty input
 mark_alone : map (utf16_characters 0) ((0xFF ∷ 0xFE ∷ []) ∷ (0xFE ∷ 0xFF ∷ []) ∷ [] ∷ []) ≡ [] ∷ [] ∷ [] ∷ []
 unfolding utf16_chars
 mark_alone = refl
@@ -76,22 +76,23 @@ odd : map (utf16_characters 0) ((0x61 ∷ []) ∷ (0xFF ∷ 0xFE ∷ 0x61 ∷ []
 unfolding utf16_chars
 odd = refl
 
--- a carriage return with a line feed, and a line feed, are two breaks: what is no character stands in line 3
+-- a carriage return with a line feed is one break, and a line feed is another: the error is in line 3
 third_line : IsFirstUnpaired (utf16_characters 0 (0x0D ∷ 0x00 ∷ 0x0A ∷ 0x00 ∷ 0x0A ∷ 0x00 ∷ 0x00 ∷ 0xDC ∷ 0x0A ∷ 0x00 ∷ [])) 0 3
 unfolding utf16_chars encode
 third_line = record { before = 0x0D ∷ 0x0A ∷ 0x0A ∷ []; after = Some 0x0A ∷ []; first = refl; numbered = refl }
 
--- U+0A0D has these bytes in one unit, and breaks no line
+-- U+0A0D has these bytes in one unit, and doesn't break a line
 no_break : IsFirstUnpaired (utf16_characters 0 (0x0D ∷ 0x0A ∷ 0x61 ∷ [])) 0 1
 unfolding utf16_chars encode
 no_break = record { before = 0x0A0D ∷ []; after = []; first = refl; numbered = refl }
 
--- below one line, which has a surrogate without a partner and ends with a carriage return and a line feed; U+0A0A ends none
+-- the text below one line, which has a surrogate without a partner and ends with a carriage return and a line feed;
+-- U+0A0A doesn't end a line
 below_a_line : map (utf16_characters 1) ((0x3D ∷ 0xD8 ∷ 0x0D ∷ 0x00 ∷ 0x0A ∷ 0x00 ∷ 0x62 ∷ 0x00 ∷ []) ∷ (0x0A ∷ 0x0A ∷ 0x0A ∷ 0x00 ∷ 0x62 ∷ 0x00 ∷ []) ∷ (0x61 ∷ 0x00 ∷ []) ∷ []) ≡ (Some 0x62 ∷ []) ∷ (Some 0x62 ∷ []) ∷ [] ∷ []
 unfolding utf16_chars
 below_a_line = refl
 
--- there lines are counted from the input's front
+-- lines are counted from the start of the input
 second_line : IsFirstUnpaired (utf16_characters 1 (0x0A ∷ 0x00 ∷ 0x00 ∷ 0xDC ∷ [])) 1 2
 unfolding utf16_chars encode
 second_line = record { before = []; after = []; first = refl; numbered = refl }

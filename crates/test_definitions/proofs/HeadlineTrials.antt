@@ -1,4 +1,4 @@
--- Drawings that are near a headline, and none.
+-- Lines that differ slightly from a drawing, so that they are none.
 use Rattle.std.proofs.Common.{◌≡◌, ◌==◌, ◌<◌, ◌≤◌, ◌-◌, ℕ, suc, ◌+◌, Bool, true, false, List, [], ◌∷◌, ◌++◌, Option, Some, None, zero, codes, nat_le, inr, ◌⊎◌, length, map, max, take, inl, refl, sym, ap, ap₂, ◌∙◌, subst, arith, append-nil, length-append, slice_index_or}
 use Rattle.std.specs.Int.{is_in_range}
 use Rattle.std.specs.Prelude.{if◌then◌else◌, slice_index}
@@ -50,11 +50,11 @@ row_of limit texts = record { cells = cell_of texts ∷ []; max_height = limit }
 abbrev one_cell : Bool → ContentArrangement → Option ℕ → Text → Option ℕ → List Text → TableValue
 one_cell enforce arrangement width indicator limit texts = with_rows (row_of limit texts ∷ []) (record (new_table nothing) { arrangement = arrangement; set_width = width; indicator = indicator; enforce_styling = enforce })
 
--- in which no width is kept to
+-- a table of one cell without a width
 abbrev free_cell : Option ℕ → List Text → TableValue
 free_cell limit texts = one_cell false Disabled None ellipsis limit texts
 
--- which is w terminal columns wide
+-- the same table with a width of w terminal columns
 abbrev wide_cell : ℕ → List Text → TableValue
 wide_cell w texts = one_cell false DynamicFullWidth (Some w) ellipsis None texts
 
@@ -72,7 +72,7 @@ pub record IsPadded (w : ℕ) (text line : Text) : Type 0 where
   pub padded : (1 ≤ left) × (1 ≤ right)
   pub wide : left + measure text + right ≡ 1 + max w (measure text) + 1
 
--- so is the one piece of a line
+-- the only piece of a line is such a text
 padded_of : (width : ℕ → ℕ) (text line : Text) (pieces : List Text) → AllZip (λ (p : ℕ × ColumnValue). IsPiece false Left p.1 (width p.0) text) (place ∷ []) pieces → line ≡ join_by (λ (piece : Text). piece) [] pieces ++ [] → IsPadded (width 0) text line
 padded_of width text line [] zip is_line = absurd zip
 padded_of width text line (piece ∷ other ∷ pieces) zip is_line = absurd zip.1
@@ -85,7 +85,7 @@ abbrev pub ArePadded : ℕ → List Text → List Text → Type 0
 ArePadded w texts lines = AllZip (IsPadded w) texts lines
 
 module _ (enforce : Bool) (arrangement : ContentArrangement) (kept : Option ℕ) (indicator : Text) (limit : Option ℕ) (texts lines : List Text) (is : IsPlainDrawing (one_cell enforce arrangement kept indicator limit texts) lines) where
-  -- the lines of the cell, cut
+  -- the lines of the cell, after cutting by height
   abbrev cut_lines : List Text
   cut_lines = lines_in (one_cell enforce arrangement kept indicator limit texts) is.framed.width is.framed.cell_lines (row_of limit texts) place
 
@@ -96,7 +96,7 @@ module _ (enforce : Bool) (arrangement : ContentArrangement) (kept : Option ℕ)
   pub width_is : arrangement ≡ Disabled → greatest (map measure texts) ≤ 65535 → is.framed.width 0 ≡ max 1 (greatest (map measure texts))
   width_is disabled short = let own = is.by_content (inl disabled) 0 place (omega arith) refl in omega (arith, own, short)
 
-  -- else it fills the width
+  -- with full width it fills the width
   pub room_is : (w : ℕ) → arrangement ≡ DynamicFullWidth → kept ≡ Some w → 3 ≤ w → 1 + is.framed.width 0 + 1 ≡ w
   room_is w full known room =
       let all = is.fills_width w (ap (λ (o : Option ℕ). width_or_terminal o false None) known) (unconstrained enforce arrangement kept indicator limit texts) full (omega arith) in
@@ -121,7 +121,7 @@ module _ (enforce : Bool) (arrangement : ContentArrangement) (kept : Option ℕ)
       by_lines (line ∷ block) [] long each = absurd (omega (arith, long))
       by_lines (line ∷ block) (x ∷ cut) long each = (each 0 (omega arith), by_lines block cut (omega (arith, long)) (λ k below. each (suc k) (omega (arith, below))))
 
-  -- so are the lines of the drawing
+  -- the lines of the drawing are these texts too
   pub lines_are : (cut : List Text) → cut_lines ≡ cut → ArePadded (is.framed.width 0) cut lines
   lines_are cut same = by_rows is.framed.frame.rows is.framed.frame.are_rows is.framed.frame.drawn
     where
@@ -145,12 +145,12 @@ module _ (enforce : Bool) (arrangement : ContentArrangement) (kept : Option ℕ)
 
 -- ---- drawings that are none
 
--- a text of two bytes that measures two
+-- a text of two bytes that takes two terminal columns
 two : measure (codes "ab") ≡ 2
 unfolding wrapping
 two = refl
 
--- what a drawing of such a text is, where nothing cuts it
+-- the drawing of such a text, if nothing cuts it
 pub of_two : (enforce : Bool) (text : Text) → measure text ≡ 2 → (limit : Option ℕ) → ((cut : Text → Text) → cut_to_limit {A = Text} cut limit (text ∷ []) ≡ text ∷ []) → (lines : List Text) → IsPlainDrawing (one_cell enforce Disabled None ellipsis limit (text ∷ [])) lines → ArePadded 2 (text ∷ []) lines
 of_two enforce text wide limit uncut lines is =
     let width : is.framed.width 0 ≡ 2 = let own = width_is enforce Disabled None ellipsis limit (text ∷ []) lines is refl (omega (arith, wide)) in omega (arith, own, wide) in
@@ -169,7 +169,7 @@ ab_padded line is =
     let right : is.right ≡ 1 = omega (arith, is.padded, wide, two) in
     is.drawn ∙ ap (λ n. spaces n ++ (codes "ab" ++ spaces is.right)) left ∙ ap (λ n. spaces 1 ++ (codes "ab" ++ spaces n)) right
 
--- so it is the drawing
+-- the drawing is this line
 ab_drawn : (enforce : Bool) (limit : Option ℕ) → ((cut : Text → Text) → cut_to_limit {A = Text} cut limit (codes "ab" ∷ []) ≡ codes "ab" ∷ []) → (lines : List Text) → IsPlainDrawing (one_cell enforce Disabled None ellipsis limit (codes "ab" ∷ [])) lines → lines ≡ codes " ab " ∷ []
 ab_drawn enforce limit uncut [] is = absurd (ab_is enforce limit uncut [] is)
 ab_drawn enforce limit uncut (line ∷ other ∷ lines) is = absurd (ab_is enforce limit uncut (line ∷ other ∷ lines) is).1
@@ -182,7 +182,7 @@ plain_of arrangement kept indicator limit texts lines is = subst (IsPlainDrawing
 ab_headline : (limit : Option ℕ) → ((cut : Text → Text) → cut_to_limit {A = Text} cut limit (codes "ab" ∷ []) ≡ codes "ab" ∷ []) → (lines : List Text) → IsHeadline (free_cell limit (codes "ab" ∷ [])) lines → lines ≡ codes " ab " ∷ []
 ab_headline limit uncut lines is = ab_drawn false limit uncut lines (plain_of Disabled None ellipsis limit (codes "ab" ∷ []) lines is)
 
--- which none of these is
+-- the following lines differ from this drawing
 abbrev the_drawing : List Text
 the_drawing = codes " ab " ∷ []
 
@@ -198,7 +198,7 @@ another_text is = another_text-differs (ab_headline (Some 1) (λ cut. refl) (cod
 another_text_keeps_nothing : ¬ (KeepsPromises (free_cell (Some 1) (codes "ab" ∷ [])) (codes " XY " ∷ []))
 another_text_keeps_nothing kept = another_text kept.headline
 
--- a character a line
+-- one character on each line
 torn-differs : ¬ (codes " a " ∷ codes " b " ∷ [] ≡ the_drawing)
 torn-differs same = cc same
 
@@ -223,7 +223,7 @@ blinking is = blinking-differs (ab_headline None (λ cut. refl) (codes "\u{1b}[5
 unpadded-differs : ¬ (codes "ab " ∷ [] ≡ the_drawing)
 unpadded-differs same = cc same
 
--- where styles are written, a cell that has none isn't hidden
+-- if styles are written, a cell without styles isn't hidden
 hidden_without_colours : ¬ (IsHeadline (one_cell true Disabled None ellipsis None (codes "ab" ∷ [])) (codes "\u{1b}[8m ab " ∷ []))
 hidden_without_colours is =
     let each = All-from_recursion (λ (row : RowValue). All IsUncoloured row.cells) (header_and_rows (one_cell true Disabled None ellipsis None (codes "ab" ∷ []))) (All-from_recursion IsUncoloured (cell_of (codes "ab" ∷ []) ∷ []) (record { no_foreground = refl; no_background = refl; no_attributes = refl }, tt), tt) in
@@ -233,14 +233,14 @@ hidden_without_colours is =
 unpadded : ¬ (IsHeadline (free_cell None (codes "ab" ∷ [])) (codes "ab " ∷ []))
 unpadded is = unpadded-differs (ab_headline None (λ cut. refl) (codes "ab " ∷ []) is)
 
--- with a space too many
+-- a space too many
 too_wide-differs : ¬ (codes " ab  " ∷ [] ≡ the_drawing)
 too_wide-differs same = cc same
 
 too_wide : ¬ (IsHeadline (free_cell None (codes "ab" ∷ [])) (codes " ab  " ∷ []))
 too_wide is = too_wide-differs (ab_headline None (λ cut. refl) (codes " ab  " ∷ []) is)
 
--- twice
+-- the line twice
 twice-differs : ¬ (codes " ab " ∷ codes " ab " ∷ [] ≡ the_drawing)
 twice-differs same = cc same
 
@@ -254,7 +254,7 @@ framed_line-differs same = cc same
 framed_line : ¬ (IsHeadline (free_cell None (codes "ab" ∷ [])) (codes "----" ∷ codes " ab " ∷ []))
 framed_line is = framed_line-differs (ab_headline None (λ cut. refl) (codes "----" ∷ codes " ab " ∷ []) is)
 
--- nor is another header
+-- a table with a header, in place of which another one isn't drawn
 abbrev headed : TableValue
 headed = with_header (row_of None (codes "ab" ∷ [])) (new_table nothing)
 
@@ -270,7 +270,7 @@ other_header is = by_block is.rows is.are_rows is.is_header.0 is.is_header.1 (is
         let here = own.drawn 0 (omega (arith, long)) in
         another_text-differs (ap (λ (t : Text). t ∷ []) (ab_padded (codes " XY ") (padded_of (λ i. 2) (codes "ab") (codes " XY ") here.0 here.1 (ap (λ (ls : List Text). slice_index_or ls 0 []) is ∙ here.2))))
 
--- nor one without the line below it
+-- no line below the header
 no_separator : ¬ (IsHeadline (with_header (plain_row []) (new_table ascii_full)) (codes "++" ∷ codes "++" ∷ []))
 no_separator is = let (block, own, made) = is.is_plain.framed.frame.is_header in too_few is.is_plain.framed.frame.header _ block _ _ _ (is.unstyled refl refl ∙ is.is_plain.framed.frame.drawn) made
   where
@@ -280,7 +280,7 @@ no_separator is = let (block, own, made) = is.is_plain.framed.frame.is_header in
         let some = ap length is in
         omega (arith, two, some, length-append header (rows ++ bottom ∷ []), length-append rows (bottom ∷ []), length-append block (separator ∷ []))
 
--- nor is `éa` drawn a character a line, blinking on red or not
+-- `éa` isn't drawn with one character on each line, blinking on red or not
 e_a : Text
 e_a = 0xC3 ∷ 0xA9 ∷ 0x61 ∷ []
 
@@ -291,8 +291,8 @@ two_characters = refl
 in_two_lines : (first second : Text) → ¬ (IsHeadline (free_cell None (e_a ∷ [])) (first ∷ second ∷ []))
 in_two_lines first second is = (of_two false e_a two_characters None (λ cut. refl) (first ∷ second ∷ []) (plain_of Disabled None ellipsis None (e_a ∷ []) (first ∷ second ∷ []) is)).1
 
--- columns that the table doesn't have make no crooked lines straight: one of one terminal column
--- for a character of two
+-- Lines that aren't straight break the promise for any columns, also for those that the table doesn't have: here a
+-- column of one terminal column has a character of two.
 wide : Text
 wide = 0xE5 ∷ 0xB9 ∷ 0xB4 ∷ []
 
@@ -311,7 +311,7 @@ crooked_lines columns is = crooked columns is.0
 crooked_within : (columns : List ColumnInfo) → ¬ (KeepToWidthWhereCharactersFit (free_cell None (wide ∷ [])) columns (codes "abc" ∷ codes "a" ∷ []))
 crooked_within columns is = crooked columns is.0
 
--- whatever the columns are, so they keep no promise
+-- so they break the promises for any columns
 crooked_keeps_nothing : (arranged : ArrangedValue) → IsArrangedTable (free_cell None (wide ∷ [])) arranged → ¬ (KeepsPromises (free_cell None (wide ∷ [])) (codes "abc" ∷ codes "a" ∷ []))
 crooked_keeps_nothing arranged is kept = crooked_lines arranged.infos (kept.straight_fitting arranged is)
 
@@ -327,7 +327,7 @@ two_more : measure (codes "cd") ≡ 2
 unfolding wrapping
 two_more = refl
 
--- of two lines the first is cut, with the indicator
+-- the first of two lines is cut, with the indicator
 cut_of_two : cut_to_limit {A = Text} (cut_text 2 ellipsis) (Some 1) (codes "ab" ∷ codes "cd" ∷ []) ≡ a_and_mark ∷ []
 unfolding wrapping a_and_mark
 cut_of_two = refl
@@ -342,7 +342,7 @@ cut_is lines headline =
     ap (cut_to_limit (cut_text (is.framed.width 0) ellipsis) (Some 1)) stay ∙ ap (λ w. cut_to_limit {A = Text} (cut_text w ellipsis) (Some 1) texts) width ∙ cut_of_two in
     subst (λ (w : ℕ). ArePadded w (a_and_mark ∷ []) lines) width (lines_are false Disabled None ellipsis (Some 1) texts lines is (a_and_mark ∷ []) cut)
 
--- so it isn't drawn as if nothing were cut
+-- the row isn't drawn as if nothing were cut
 uncut : ¬ (IsHeadline (free_cell (Some 1) (codes "ab" ∷ codes "cd" ∷ [])) (codes " ab " ∷ []))
 unfolding a_and_mark
 uncut is = by_left own.left own.padded.0 own.drawn
@@ -377,7 +377,7 @@ narrow_is lines headline =
     ap (cut_to_limit (cut_text (is.framed.width 0) dots) (Some 1)) stay ∙ ap (λ w. cut_to_limit {A = Text} (cut_text w dots) (Some 1) texts) width ∙ cut_of_one in
     subst (λ (w : ℕ). ArePadded w (codes "a" ∷ []) lines) width (lines_are false Disabled None dots (Some 1) texts lines is (codes "a" ∷ []) cut)
 
--- nor a part of it
+-- nor is a part of the indicator drawn
 part_of_an_indicator : ¬ (IsHeadline (one_cell false Disabled None dots (Some 1) (codes "a" ∷ codes "b" ∷ [])) (codes " . " ∷ []))
 part_of_an_indicator is = by_left own.left own.padded.0 own.drawn
   where
@@ -402,7 +402,7 @@ no_line_for_nothing headline =
 
 -- ---- a text that is wider than its column
 
--- no line of it is wider, where each character fits
+-- none of its lines is wider, if each character fits
 ab_fits : CharactersFit 1 (codes "ab")
 unfolding wrapping
 ab_fits = refl
@@ -410,7 +410,7 @@ ab_fits = refl
 wide_line : ¬ (AreLinesOfText 1 0x20 (codes "ab") (codes "ab" ∷ []))
 wide_line own = let fits : measure (codes "ab") ≤ 1 = own.fit (frame_adds 0x20 refl) ab_fits 0 [] (omega arith) in omega (arith, fits, two)
 
--- it is cut where texts wrap
+-- a text is cut at the ends of wrapped lines
 wrapped_text : (w n : ℕ) (text : Text) → w < measure text → n ≡ w → (of_texts : List (List Text)) → AllZip (AreLinesOfText n 0x20) (text ∷ []) of_texts → flat_map (λ (of_text : List Text). of_text) of_texts ≡ wrapped w 0x20 text
 wrapped_text w n text wide same [] zip = absurd zip
 wrapped_text w n text wide same (own ∷ other ∷ of_texts) zip = absurd zip.1
@@ -455,7 +455,7 @@ cut_elsewhere is = by_left own.left own.padded.0 own.drawn
         by_right (suc (suc n)) same = let letter : 0x63 ≡ 0x20 = ap (λ (t : Text). slice_index t 4) same in absurd (omega (arith, letter))
     by_left (suc (suc n)) some same = let letter : 0x61 ≡ 0x20 = ap (λ (t : Text). slice_index t 1) same in absurd (omega (arith, letter))
 
--- nor is a text cut that has room
+-- a text that has room isn't cut
 torn_in_a_wide_table : ¬ (IsHeadline (one_cell false Dynamic (Some 80) ellipsis None (codes "ab" ∷ [])) (codes " a " ∷ codes " b " ∷ []))
 torn_in_a_wide_table headline = by_lines.1
   where
@@ -468,7 +468,7 @@ torn_in_a_wide_table headline = by_lines.1
     by_lines : ArePadded (is.framed.width 0) (codes "ab" ∷ []) (codes " a " ∷ codes " b " ∷ [])
     by_lines = lines_are false Dynamic (Some 80) ellipsis None (codes "ab" ∷ []) (codes " a " ∷ codes " b " ∷ []) is (codes "ab" ∷ []) (texts_stay false Dynamic (Some 80) ellipsis None (codes "ab" ∷ []) (codes " a " ∷ codes " b " ∷ []) is (All-from_recursion (λ text. measure text ≤ is.framed.width 0) (codes "ab" ∷ []) (omega (arith, width, two), tt)))
 
--- nor is a text that has no room drawn a character a line, where its column has room for nine
+-- a text without room isn't drawn with one character on each line, if its column has room for nine
 abbrev ten_letters : Text
 ten_letters = codes "abcdefghij"
 
@@ -528,7 +528,7 @@ a_character_a_line lines many headline = by_level level.0 level.1 (level.2 0 pla
         two_lines (x ∷ y ∷ z ∷ ls) zip long = zip.1.1
         two_lines (x ∷ y ∷ []) zip long = absurd (omega (arith, long))
 
-    -- at any width of nine or more a line is as wide
+    -- at any width of at least nine, a line is as wide
     lines_at : (w : ℕ) → 9 ≤ w → HasLinesWithin eleven_wide place w n → 9 ≤ n
     lines_at w least each = by_width (cases_lt w 10)
       where
@@ -560,7 +560,7 @@ five_and_one : (measure (codes "hello") ≡ 5) × (measure (codes "x") ≡ 1)
 unfolding wrapping
 five_and_one = (refl, refl)
 
--- nor is a narrow column broken beside a long text
+-- a narrow column isn't broken beside a long text
 abbrev beside_a_long_text : TableValue
 beside_a_long_text = with_rows (plain_row (plain_cell (codes "hello") ∷ plain_cell (codes "abcdefghijklmnopqrstuvwxyzabcd") ∷ []) ∷ []) (record (new_table nothing) { arrangement = Dynamic; set_width = Some 30 })
 
@@ -571,7 +571,7 @@ broken_column lines is one =
     let own = (level.2 0 place (omega arith)).narrow (omega (arith, five_and_one, level.1)) in
     absurd (omega (arith, own, one, five_and_one))
 
--- nor is a text torn that has room in a table of full width
+-- a text that has room in a table of full width isn't torn
 abbrev greeting : RowValue
 greeting = plain_row (plain_cell (codes "hello") ∷ plain_cell (codes "x") ∷ [])
 
@@ -610,11 +610,11 @@ torn_at_full_width lines many headline = by_rows is.framed.frame.rows is.framed.
         let second = one_line (is.framed.width 1) (codes "x") (omega (arith, room_beside, five_and_one.1)) (is.framed.cell_lines other (plain_cell (codes "x"))) (is.framed.are_cell_lines 0 greeting (omega arith) 1 place (omega arith) (plain_cell (codes "x")) refl) in
         omega (arith, many, all, high, first, second)
 
--- nor is one wider than the width that is kept, where that has room
+-- a column isn't wider than a set width that has room
 abbrev narrow_table : TableValue
 narrow_table = one_cell false Dynamic (Some 4) ellipsis None (codes "abcdef" ∷ [])
 
--- P holds of its one cell
+-- P holds for its only cell
 of_its_cell : (P : RowValue → ℕ × ColumnValue → CellValue → Type 0) → P (row_of None (codes "abcdef" ∷ [])) place (cell_of (codes "abcdef" ∷ [])) → EachShownCell P narrow_table
 of_its_cell P own =
     All-from_recursion (λ (row : RowValue). All (λ (p : ℕ × ColumnValue). (cell : CellValue) → slice_get row.cells p.0 ≡ Some cell → P row p cell) (shown_columns narrow_table)) (header_and_rows narrow_table) (
@@ -641,7 +641,7 @@ beyond_the_width headline =
         of_its_cell (λ row p cell. All (λ text. is_printable_ascii text ≡ true) cell.text_lines × (is_in_range 0x20 0x7E (cell_delimiter narrow_table p.1.delimiter cell) ≡ true))
         (All-from_recursion (λ text. is_printable_ascii text ≡ true) (codes "abcdef" ∷ []) (refl, tt), refl)
 
--- spaces alone have no line, not even a blank one
+-- spaces alone have no line
 three : measure (codes "   ") ≡ 3
 unfolding wrapping
 three = refl
@@ -661,7 +661,7 @@ unstyled_same no_byte none = refl
 unstyled_same (byte b line styled rest) none = ap (λ (t : Text). b ∷ t) (unstyled_same rest (or_parts (b == 0x1B) _ none).1)
 unstyled_same (sequence code line styled all rest) none = absurd (cc none)
 
--- `2Jm` isn't parameters and `m`
+-- `2Jm` isn't parameters followed by `m`
 pub no_parameters : (code rest : Text) → list_all is_parameter code ≡ true → ¬ (code ++ (0x6D ∷ rest) ≡ codes "2Jm")
 no_parameters [] rest all is = let end : ◌≡◌ {A = ℕ} 0x6D 0x32 = cc is in absurd (omega (arith, end))
 no_parameters (x ∷ []) rest all is = let end : ◌≡◌ {A = ℕ} 0x6D 0x4A = cc is in absurd (omega (arith, end))
@@ -669,20 +669,20 @@ no_parameters (x ∷ y ∷ code) rest all is =
     let none : false ≡ true = subst (λ (t : Text). list_all is_parameter (t ++ code) ≡ true) (ap (take 2) is) all in
     cc none
 
--- so a line is styled by no sequence that clears the screen
+-- so no sequence that clears the screen styles a line
 clears_more : {line styled : Text} → IsStyled line styled → line ≡ [] → ¬ (styled ≡ codes "\u{1b}[2Jm")
 clears_more no_byte none is = cc is
 clears_more (byte b line styled rest) none is = cc none
 clears_more (sequence code line styled all rest) none is = no_parameters code styled all (cc is)
 
--- a text in bold, where sequences in texts are looked at
+-- a bold text, with custom styling
 abbrev bold : Text
 bold = codes "\u{1b}[1mab\u{1b}[0m"
 
 abbrev bold_cell : TableValue
 bold_cell = record (free_cell None (bold ∷ [])) { custom_styling = true }
 
--- it is drawn by what is visible, and sequences
+-- it is drawn by its visible text, with sequences
 bold_measured : measured_table bold_cell ≡ free_cell None (codes "ab" ∷ [])
 bold_measured = refl
 
@@ -698,7 +698,7 @@ another_text_in_bold is = let same = unstyled_same (bold_is (codes " XY " ∷ []
 torn_in_bold : ¬ (IsHeadline bold_cell (codes " a " ∷ codes " b " ∷ []))
 torn_in_bold is = (bold_is (codes " a " ∷ codes " b " ∷ []) is).1
 
--- where styles are written, neither is another text drawn, nor a colour inside a text
+-- if styles are written, another text isn't drawn, and no colour is inside a text
 abbrev styled_cell : List Text → TableValue
 styled_cell texts = one_cell true Disabled None ellipsis None texts
 
@@ -731,7 +731,7 @@ coloured_inside is = by_rows is.frame.rows is.frame.are_rows (is.frame.drawn ∙
         let own = (each.0.are refl).drawn 0 (omega (arith, long)) in
         by_pieces (is.is_plain.framed.width 0) own.0 (subst (λ (cut : List Text). AllZip (λ (p : ℕ × ColumnValue). IsPiece false Left p.1 (is.is_plain.framed.width 0) (slice_index_or cut 0 [])) (place ∷ []) own.0) is_text own.1) (ap (λ (ls : List Text). slice_index_or ls 0 []) same ∙ own.2)
 
--- a width that is to be filled isn't left unfilled
+-- a width that must be filled is filled
 unfilled : ¬ (IsHeadline (wide_cell 8 (codes "ab" ∷ [])) (codes " ab " ∷ []))
 unfilled headline = by_line (lines_are false DynamicFullWidth (Some 8) ellipsis None (codes "ab" ∷ []) (codes " ab " ∷ []) is (codes "ab" ∷ []) stay).0
   where
@@ -760,7 +760,7 @@ narrower_column (is, are) =
 one_column_more : ¬ (AreColumnsOf (free_cell None (codes "ab" ∷ [])) (codes " ab " ∷ []) (info_of (new_column 0) 2 ∷ info_of (new_column 1) 2 ∷ []))
 one_column_more (is, are) = let few : 2 ≡ 1 = ap length are in absurd (omega (arith, few))
 
--- where styles are written no frame line blinks
+-- no frame line blinks, also if styles are written
 blinking_frame : ¬ (IsHeadline (record (new_table ascii_full) { enforce_styling = true }) (codes "\u{1b}[5m++" ∷ codes "++" ∷ []))
 unfolding encode
 blinking_frame is = let letter : 0x1B ≡ 0x2B = ap (λ (ls : List Text). slice_index (slice_index_or ls 0 []) 0) is.frame.drawn in absurd (omega (arith, letter))
@@ -769,11 +769,11 @@ blinking_frame is = let letter : 0x1B ≡ 0x2B = ap (λ (ls : List Text). slice_
 open_line : ¬ (IsHeadline halves (codes "| \u{1b}[1mab |" ∷ []))
 open_line is = bold_stays_open (All-head LeavesNoneOpen (codes "| \u{1b}[1mab |") [] (is.closed refl halves_end_in_texts))
 
--- nor tears a bold letter apart and conceals what is after it
+-- no line tears a bold letter apart and conceals the text after it
 torn_line : ¬ (IsHeadline bold_letter (torn_letter ∷ []))
 torn_line is = torn_stays_open (All-head LeavesNoneOpen torn_letter [] (is.closed refl bold_ends_in_text))
 
--- nor is a letter torn by sequences that are closed at once
+-- no letter is torn by sequences that are closed at once
 torn_between : Text
 torn_between = codes " \u{1b}[1m" ++ (0xC3 ∷ codes "\u{1b}[0m\u{1b}[1m") ++ (0xA9 ∷ codes "\u{1b}[0m ")
 
@@ -781,7 +781,7 @@ torn_between_sequences : ¬ (All IsUtf8 (torn_between ∷ []))
 unfolding torn_between encode chars
 torn_between_sequences each = let same = encodes-chars torn_between (All-head IsUtf8 torn_between [] each) in let byte : ◌≡◌ {A = ℕ} 0x80 0x1B = ap (λ (t : Text). slice_index t 6) same in absurd (omega (arith, byte))
 
--- nor is a text at the left, if its cell is at the right, or in the centre
+-- a text isn't left-aligned if its cell is right-aligned or centred
 at_the_left : (side : CellAlignment) → 1 ≤ free_before side 2 → ¬ (IsPiece false side (new_column 0) 3 (codes "a") (codes " a   "))
 at_the_left side some is = by_left is.left is.aligned (is.drawn ∙ ap (λ (before : Text). before ++ (codes "a" ++ is.after)) is.are_spaces.0)
   where
@@ -799,6 +799,6 @@ right_cell = at_the_left Right (omega arith)
 centred_cell : ¬ (IsPiece false Center (new_column 0) 3 (codes "a") (codes " a   "))
 centred_cell = at_the_left Center (omega arith)
 
--- the cell's side goes before its column's
+-- a cell's alignment overrides its column's
 own_sides : map (λ side. side_in (Some (record (cell_of (codes "a" ∷ [])) { alignment = side })) (record (new_column 0) { alignment = Some Center })) (None ∷ Some Right ∷ Some Left ∷ []) ≡ Center ∷ Right ∷ Left ∷ []
 own_sides = refl

@@ -1,4 +1,4 @@
--- What is left of a table without its hidden columns, computed.
+-- Tables without their hidden columns, computed.
 use Rattle.std.proofs.Common.{◌≡◌, [], ◌∷◌, None, Some, refl}
 use Rattle.comfy_parts.proofs.Computing.{wrapping}
 use Rattle.comfy_parts.specs.Presets.{ascii_full}
@@ -22,12 +22,12 @@ drawn_with_it : IsDrawingOf one_shown (texts ("+----+" ∷ "| ab |" ∷ "+====+"
 unfolding wrapping
 drawn_with_it = (2 ∷ 6 ∷ [], at_widths refl refl refl, refl)
 
--- as without the hidden column
+-- the same without the hidden column
 drawn_without_it : IsDrawingOf (without_hidden one_shown) (texts ("+----+" ∷ "| ab |" ∷ "+====+" ∷ "| cd |" ∷ "+----+" ∷ []))
 unfolding wrapping
 drawn_without_it = (2 ∷ [], at_widths refl refl refl, refl)
 
--- a row keeps the cells of shown columns in their order, those that it has; one beyond the columns goes
+-- a row keeps its cells of shown columns in their order; a cell beyond the columns is left out
 kept_cells : beside_shown (with_constraints (Some Hidden ∷ None ∷ Some Hidden ∷ []) (rows_of ascii_full (("a" ∷ "b" ∷ "c" ∷ "d" ∷ []) ∷ []))).columns (cells_of ("1" ∷ "2" ∷ "3" ∷ "4" ∷ "5" ∷ []))
     ≡ cells_of ("2" ∷ "4" ∷ [])
 unfolding wrapping

@@ -1,4 +1,4 @@
--- What is written for small inputs.
+-- The output for small inputs.
 use Rattle.std.proofs.Common.{◌≡◌, ℕ, List, [], ◌∷◌, refl, Option, Some, None, lit<, map}
 use Rattle.std.specs.Prelude.{codes}
 use Prim.Native.String.{String}

@@ -1,4 +1,4 @@
--- Drawings that are near one of a table, and lose or change a text, or its place.
+-- Drawings that are nearly those of a table, but lose or change a text, or move it.
 use Rattle.std.proofs.Common.{◌≡◌, ◌==◌, ◌<◌, ◌≤◌, ◌+◌, inl, inr, ℕ, zero, suc, false, not, List, [], ◌∷◌, ◌++◌, ◌∙◌, Option, Some, None, length, length-append, max, map, filter, flat_map, append-nil, append_assoc, codes, refl, sym, ap, ap₂, subst, arith, slice_index_or, unwrap_or}
 use Rattle.std.specs.List.{All, AllZip, join_by, slice_get}
 use Rattle.std.specs.Prelude.{slice_index, MatchOption, encode_utf8_all, option_map, replicate}
@@ -39,13 +39,13 @@ squeezed-only text (n, is) = ap squeezed is ∙ by_count n
 squeezed-three : (xs ys zs : Text) → squeezed (xs ++ (ys ++ zs)) ≡ squeezed xs ++ (squeezed ys ++ squeezed zs)
 squeezed-three xs ys zs = filter-append _ xs (ys ++ zs) ∙ ap (λ (t : Text). squeezed xs ++ t) (filter-append _ ys zs)
 
--- a piece is its line, and spaces
+-- without spaces, a piece is its line
 pub squeezed-piece : (column : ColumnValue) (w : ℕ) (line piece : Text) → IsPiece false Left column w line piece → squeezed piece ≡ squeezed line
 squeezed-piece column w line piece own =
     ap squeezed own.drawn ∙ squeezed-three own.before line own.after
     ∙ ap₂ (λ (a b : Text). a ++ (squeezed line ++ b)) (ap squeezed own.are_spaces.0 ∙ squeezed-spaces own.left) (ap squeezed own.are_spaces.1 ∙ squeezed-spaces own.right) ∙ append-nil (squeezed line)
 
--- slices of a text are all of it but spaces
+-- without spaces, the slices of a text are the text
 squeezed-slices : (text : Text) (own : List Text) → IsSlicesWhere (λ line tail. Unit {0}) 0x20 text own → squeezed (flat_map (λ (line : Text). line) own) ≡ squeezed text
 squeezed-slices text [] only = sym (squeezed-only text only)
 squeezed-slices text (line ∷ own) (tail, slice, ends, more) =
@@ -89,7 +89,7 @@ row_table first second = with_rows (pair first second ∷ []) (new_table ascii_f
 abbrev amount : TableValue
 amount = row_table [] (codes "12.80")
 
--- what a line of two pieces is without its spaces
+-- a line of two pieces, without its spaces
 squeezed-line : (line p q first second : Text) → line ≡ content_line ascii_full ascii_full.content_lines (p ∷ q ∷ []) → squeezed p ≡ squeezed first → squeezed q ≡ squeezed second
     → squeezed line ≡ codes "|" ++ (squeezed first ++ (codes "|" ++ (squeezed second ++ codes "|")))
 unfolding encode
@@ -160,7 +160,7 @@ module _ (first second : Text) (one_text : (plain_cell first).text_lines ≡ fir
 amount_line : (top line bottom : Text) → AreShown (ShowsRow amount) amount (top ∷ line ∷ bottom ∷ []) → squeezed line ≡ codes "||12.80|"
 amount_line top line bottom is = line_between [] (codes "12.80") refl refl top line bottom is
 
--- texts that are shown unchanged are shown
+-- texts that are shown whole are shown
 whole_row : (table : TableValue) (width : ℕ → ℕ) (borders : ContentLineStyle) (row : RowValue) (block : List Text) → ShowsWholeRow table width borders row block → ShowsRow table width borders row block
 whole_row table width borders row block own =
     record {
@@ -186,14 +186,14 @@ whole_is_shown : (lines : List Text) → AreShown (ShowsWholeRow amount) amount 
 whole_is_shown lines (width, is) =
     (width, frame_gives (λ row. Unit {0}) (ShowsWholeRow amount width) (ShowsRow amount width) (λ borders row block any own. whole_row amount width borders row block own) amount width lines (λ k default below. tt) is)
 
--- another amount: a `-` before it
+-- another amount, with a `-` before it
 other_amount : (top bottom : Text) → ¬ (AreShown (ShowsRow amount) amount (top ∷ codes "|  | -12.80 |" ∷ bottom ∷ []))
 other_amount top bottom is = let letter : ◌≡◌ {A = ℕ} 0x2D 0x31 = cc (amount_line top (codes "|  | -12.80 |") bottom is) in absurd (omega (arith, letter))
 
 other_whole_amount : (top bottom : Text) → ¬ (AreShown (ShowsWholeRow amount) amount (top ∷ codes "|  | -12.80 |" ∷ bottom ∷ []))
 other_whole_amount top bottom is = other_amount top bottom (whole_is_shown _ is)
 
--- the column beside it
+-- the amount in the neighbouring column
 other_column : (top bottom : Text) → ¬ (AreShown (ShowsRow amount) amount (top ∷ codes "| 12.80 |  |" ∷ bottom ∷ []))
 other_column top bottom is = let letter : ◌≡◌ {A = ℕ} 0x31 0x7C = cc (amount_line top (codes "| 12.80 |  |") bottom is) in absurd (omega (arith, letter))
 
@@ -209,7 +209,7 @@ no_border_between_texts top bottom is =
     let same : codes "|712.80|" ≡ codes "|7|12.80|" = line_between (codes "7") (codes "12.80") refl refl top (codes "| 7  12.80 |") bottom is in
     let letter : 0x31 ≡ 0x7C = ap (λ (t : Text). slice_index t 2) same in absurd (omega (arith, letter))
 
--- a sequence inside the text, or beside it, where styles aren't written
+-- a sequence inside the text, or beside it, without styles
 coloured_digits : (top bottom : Text) → ¬ (AreShown (ShowsRow amount) amount (top ∷ codes "|  | 12\u{1b}[31m.80 |" ∷ bottom ∷ []))
 coloured_digits top bottom is = let letter : ◌≡◌ {A = ℕ} 0x1B 0x2E = cc (amount_line top (codes "|  | 12\u{1b}[31m.80 |") bottom is) in absurd (omega (arith, letter))
 
@@ -272,7 +272,7 @@ amounts_are_shown = (
     second (suc k) below = absurd (omega (arith, below))
     second zero below = (codes " 7 " ∷ codes "       " ∷ [], (between (new_column 0) 1 1 (codes "7") refl (omega arith) (omega (arith, measures)), (between (new_column 1) 5 6 [] refl (omega arith) (omega (arith, measures)), tt)), refl)
 
--- what each drawing of them is
+-- the lines of each drawing of the two rows
 pub record IsTwoRows (lines : List Text) : Type 0 where
   pub top : Text
   pub first : Text

@@ -1,4 +1,4 @@
--- Values of which conclusions of laws are false: a law has no body that a mutation could change.
+-- Counterexamples to the conclusions of laws: a law has no body that a mutation could change.
 use Rattle.std.proofs.Common.{◌≡◌, ◌≤◌, ◌<◌, ◌⊎◌, ◌+◌, ◌*◌, ◌/◌, ◌==◌, ℕ, zero, suc, true, false, List, inl, inr, [], ◌∷◌, ◌++◌, Some, None, refl, ap, sym, ◌∙◌, arith, length, map, max, min, sum_by, take}
 use Rattle.std.specs.Prelude.{codes, encode_utf8_all, replicate, slice_index_or}
 use Rattle.std.specs.Str.{chars}
@@ -92,7 +92,7 @@ more_lines fewest =
     let is : 2 ≤ 1 = fewest (codes "ab" ∷ []) whole_is_a_slice all in
     omega (arith, is)
 
--- no gap stands before the first letter of two, and the second one follows it
+-- no gap precedes the first of two letters, and the second one follows it
 second_follows : (tail : Text) (slice : IsSliceOf 0x20 (codes "ab") (codes "a") tail)
     → (slice.gap ≡ []) × (tail ≡ codes "b")
 unfolding wrapping
@@ -114,7 +114,7 @@ second_follows tail slice =
         let letter : ◌≡◌ {A = ℕ} 0x61 0x20 = cc here in
         absurd (omega (arith, letter))
 
--- so the text doesn't end behind the first one, and no space follows it
+-- so the text doesn't end after the first one, and no space follows it
 inside_a_word : {P : Type 0} (tail : Text) → IsSliceOf 0x20 (codes "ab") (codes "a") tail
     → (tail ≡ []) ⊎ ((begins_with 0x20 tail ≡ true) ⊎ P) → P
 unfolding wrapping
@@ -160,7 +160,7 @@ short_head head =
 abbrev apart : List Text
 apart = codes "abcd" ∷ [] ∷ codes "efghi" ∷ []
 
--- in ten columns its first line ends with the empty one: the next one would need eleven
+-- in ten terminal columns its first line ends with the empty one: the next one would need eleven
 ends_with_the_gap : EndsAtFirst 10 0x20 apart 5
 unfolding wrapping
 ends_with_the_gap =
@@ -180,7 +180,7 @@ ends_too_early : ¬ (EndsAtFirst 5 0x20 beside 2)
 unfolding wrapping
 ends_too_early ends = at ends.last ends.is_first.holds ends.takes
   where
-    -- what is taken of the element after the last one
+    -- the part that is taken of the element after the last one
     taken : ℕ → ℕ
     taken last =
         part_taken 5 0x20 (columns_to 0x20 beside last) (slice_index_or beside (suc last) [])
@@ -233,7 +233,7 @@ space_in_a_sequence same = let is : codes "\u{1b}[ ma" ≡ codes "a" = same in c
 abbrev IsMeasuredWithout : CellLine → Type 0
 IsMeasuredWithout line = visible_text line.written ≡ line.measured
 
--- a line that is measured with its sequence
+-- a line whose measure includes its sequence
 abbrev bold : CellLine
 bold = record { measured = codes "\u{1b}[1ma"; written = codes "\u{1b}[1ma" }
 
@@ -257,7 +257,7 @@ all_are_equal same = let is : ◌≡◌ {A = ℕ} 0 1 = (same 0 1).0 refl in ome
 
 -- ---- widths of a table
 
--- one column of two terminal columns, with borders and paddings six
+-- one column of two terminal columns, which takes six with borders and paddings
 abbrev table : TableValue
 table = rows_of ascii_full (("ab" ∷ []) ∷ [])
 
@@ -275,7 +275,7 @@ long_frame_line : ¬ (count (codes "+----+") ≤ max 5 (least_total table))
 unfolding wrapping
 long_frame_line fits = let is : 6 ≤ 5 = fits in omega (arith, is)
 
--- nor does a drawing over that width keep to 5, as `known_width` of `IsTableDrawing` promises
+-- a drawing over that width doesn't keep to 5, as `known_width` of `IsTableDrawing` promises
 wide_drawing : ¬ (LineWidthsSatisfy (λ n. n ≤ max 5 (least_total table)) table (2 ∷ []))
 unfolding wrapping
 wide_drawing counts = let is : 6 ≤ 5 = counts.frame_lines ascii_full.top_border in omega (arith, is)
@@ -363,7 +363,7 @@ number_sign_in_a_table : ¬ (IsStraightTable (rows_of numbered (("ab" ∷ []) �
 number_sign_in_a_table straight =
     number_sign_adds_two (straight.characters 0 (Some 0x23) (omega arith))
 
--- what is visible of the line is as wide as the table
+-- the visible line is as wide as the table
 abbrev IsVisiblyStraight : Text → Type 0
 IsVisiblyStraight line = measure (visible_text line) ≡ line_total table (2 ∷ [])
 

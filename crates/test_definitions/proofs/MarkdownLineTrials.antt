@@ -1,4 +1,4 @@
--- What is read back from lines for Markdown, computed.
+-- Fields that are read back from lines for Markdown, computed.
 use Rattle.std.proofs.Common.{◌≡◌, ◌==◌, ℕ, ap, false, true, List, [], ◌∷◌, None, Some, map, refl}
 use Rattle.std.specs.Prelude.{codes, slice_index, slice_index_or}
 use Rattle.std.specs.Str.{chars}
@@ -18,7 +18,7 @@ use Rattle.csv_tables.specs.MarkdownLines.{parts_between_bars, read_part, withou
 use Rattle.csv_tables.specs.declared.selection.Noun.TheVariants.{Record}
 use Rattle.test_definitions.proofs.PlainLook.{plain_look}
 
--- a line as its parts are read
+-- the parts of a line, as they are read
 abbrev read : List ℕ → List (List ℕ)
 read line = map read_part (parts_between_bars line)
 
@@ -35,7 +35,7 @@ backslashes_are_escaped_too = refl
 no_bar_is_one_part : parts_between_bars [] ≡ [] ∷ []
 no_bar_is_one_part = refl
 
--- spaces around a text are no part of it, those within are
+-- spaces around a text aren't part of it, and those within it are
 outer_spaces_are_none : without_outer_spaces (codes "  a  b ") ≡ codes "a  b"
 outer_spaces_are_none = refl
 
@@ -54,7 +54,7 @@ blank_fields_are_read = refl
 
 -- ---- tables
 
--- a look without anything kept
+-- a look that keeps nothing
 abbrev look : Look
 look = record plain_look { is_markdown = true }
 
@@ -70,7 +70,7 @@ content =
       noun = Record;
     }
 
--- the line below the header has a colon for the column at the right
+-- the line below the header has a colon for the right-aligned column
 header_rule_and_rows : markdown_lines (codes "|------|---:|") (record { table = markdown_table look content; infos = infos_of (markdown_table look content) (4 ∷ 2 ∷ []) })
     ≡ codes "| a    |  n |" ∷ codes "|------|---:|" ∷ codes "| x\\|y | 12 |" ∷ []
 unfolding wrapping lib.Utf8.encode chars field_at
@@ -85,11 +85,11 @@ rule_of_contents = refl
 abbrev columns : List ColumnPlan
 columns = record { position = 1; alignment = None; points = None; is_nowrap = false } ∷ record { position = 0; alignment = None; points = None; is_nowrap = false } ∷ []
 
--- what they show of fields
+-- the texts that they show of fields
 abbrev shown : List Text → List Shown
 shown fields = shown_in look false false columns (1, fields)
 
--- a record is given back by its line, a missing field as an empty one, and not by another
+-- the line of a record gives it back, with an empty field for a missing one, and another line doesn't
 record_is_given_back : GivesBack (shown (codes " a\n" ∷ codes "b|c" ∷ [])) (codes "| b\\|c | a<br> |")
 unfolding wrapping lib.Utf8.encode chars field_at
 record_is_given_back = refl

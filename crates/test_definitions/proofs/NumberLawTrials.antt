@@ -1,15 +1,15 @@
--- What is a number behind a sign.
+-- Numbers after a sign.
 use Rattle.std.proofs.Common.{◌≡◌, true, false, codes, refl}
 use Rattle.std.specs.Str.{chars}
 use Rattle.ucd_category.proofs.Computing.{ucd_category}
 use Rattle.csv_records.specs.Number.{is_number}
 
--- behind another character than a sign there is no number
+-- after a character other than a sign there is no number
 no_sign : ¬ (is_number (codes "-5") ≡ is_number (codes "x5"))
 unfolding chars lib.Utf8.encode ucd_category is_number
 no_sign same = let is : true ≡ false = same in cc is
 
--- without a sign a text may be a number that is none behind one
+-- some numbers aren't numbers after a sign
 enclosed : is_number (codes "(5)") ≡ true
 unfolding chars lib.Utf8.encode ucd_category is_number
 enclosed = refl

@@ -1,4 +1,4 @@
--- What `run` may return on an empty input and on half a character.
+-- Results of `run` on an empty input and on half a character.
 use Rattle.std.proofs.Common.{◌≡◌, ◌+◌, ◌∙◌, [], ◌∷◌, ap, length, length-append, refl, Global, None, true, false, arith}
 use Rattle.std.specs.Prelude.{codes}
 use Rattle.comfy_parts.proofs.Computing.{wrapping}
@@ -48,11 +48,11 @@ after_write =
       part = record { whole = refl; output = codes "++\n++\n"; is_output = (([], (refl, refl)), both_lines); beginning = record { rest = codes "++\n"; joins = refl; some_are_missing = omega arith } };
     }
 
--- all of an output isn't a part of it
+-- a whole output isn't a proper prefix of itself
 no_part : (output : Text) → ¬ (IsBeginningOnly output output)
 no_part output part = let longer : length output ≡ length output + length part.rest = ap length part.joins ∙ length-append output part.rest in absurd (omega (arith, longer, part.some_are_missing))
 
--- the reader failed, before the end or with all bytes read
+-- the reader failed, before the end or after all bytes
 abbrev half_read : RunFacts
 half_read = record { input = 0xE2 ∷ 0x9C ∷ []; end_was_read = false; written = []; read_failed = true; write_failed = false }
 

@@ -1,4 +1,4 @@
--- Which texts and outputs of `csvtable` hold harmful characters, computed.
+-- Texts and outputs of `csvtable` with harmful characters, computed.
 use Rattle.std.proofs.Common.{◌≡◌, ℕ, true, false, List, [], ◌∷◌, None, Some, refl, sym, ◌∙◌, subst}
 use Rattle.std.specs.List.{list_any}
 use Rattle.std.specs.Prelude.{codes, encode_utf8_all}
@@ -36,14 +36,14 @@ any_of : (cs : List ℕ) → NonePass is_harmful cs → list_any is_harmful cs �
 any_of [] none = refl
 any_of (c ∷ cs) none = rw none.0 (any_of cs none.1)
 
--- a text of these characters is a text of no others
+-- a text without harmful characters is harmless
 harmless : (cs : List ℕ) → list_any is_harmful cs ≡ false → HasNothingHarmful (encode_utf8_all cs)
 harmless cs none = (cs, refl, none_of cs none)
 
 harmful : (cs : List ℕ) → list_any is_harmful cs ≡ true → ¬ (HasNothingHarmful (encode_utf8_all cs))
 harmful cs some none = true≢false (sym some ∙ any_of cs (subst (NonePass is_harmful) (encodes_same none.0 cs none.1) none.2))
 
--- line feeds aren't, and U+00A0 follows the last control character
+-- line feeds are harmless, and U+00A0 follows the last control character
 line_feed_is_harmless : HasNothingHarmful (utf8 "a\n~\u{a0}…\n")
 line_feed_is_harmless = harmless (codes "a\n~\u{a0}…\n") refl
 
@@ -96,7 +96,7 @@ marked_is_harmless = refl
 abbrev column : ColumnPlan
 column = record { position = 0; alignment = None; points = None; is_nowrap = false }
 
--- a header, and a record whose field clears the screen and then says so in one byte more
+-- a header, and a record whose field clears the screen, with ESC and with U+009B
 abbrev table : Look → TableValue
 table look =
     with_rows (row_for look false false (column ∷ []) (1, utf8 "\u{1b}[2J\u{9b}J" ∷ []) ∷ []) (with_header (header_for look false (column ∷ []) (utf8 "a" ∷ [])) (empty_table look))
@@ -111,7 +111,7 @@ output_is = refl
 output_is_harmless : HasNothingHarmful (visible_text (output look))
 output_is_harmless = subst HasNothingHarmful (sym output_is) (harmless (codes "+--------+\n| a      |\n+========+\n| �[2J�J |\n+--------+\n") refl)
 
--- the premise is needed
+-- the premise about the style is needed
 tabs_are_written : visible_text (output (record look { style = with_tabs })) ≡ utf8 "+\t\t\t\t\t\t\t\t+\n| a      |\n+========+\n| �[2J�J |\n+--------+\n"
 unfolding wrapping lib.Utf8.encode chars field_at
 tabs_are_written = refl

@@ -6,7 +6,7 @@ use Rattle.comfy_parts.specs.Text.{Text}
 use Rattle.comfy_table.proofs.BreakLemmas.{terminated_lines}
 use Rattle.comfy_table.specs.Laws.{AreLinesOf, IsStyleWithout}
 
--- the lines of a text stand between its line feeds
+-- the lines of a text are the parts between its line feeds
 pub found : (text : Text) (lines : List Text) → AreLinesOf text lines
     → slice_split (λ b. b == 0x0A) text ≡ lines ++ [] ∷ []
 found text lines are = ap (slice_split (λ b. b == 0x0A)) are.joined ∙ terminated_lines lines are.unbroken
@@ -27,7 +27,7 @@ two_lines first second (x ∷ y ∷ []) is = cc is
 two_lines first second (x ∷ y ∷ z ∷ []) is = absurd (cc is)
 two_lines first second (x ∷ y ∷ z ∷ t ∷ more) is = absurd (cc is)
 
--- a text that doesn't end with a line feed is none of lines
+-- a text that doesn't end with a line feed has no lines
 pub unended : (lines : List Text) → ¬ (AreLinesOf (codes "a") lines)
 unended lines are = by_lines lines (found (codes "a") lines are)
   where

@@ -1,4 +1,4 @@
--- Outputs of which the conclusions of laws are false.
+-- Outputs that contradict the conclusions of laws.
 use Rattle.std.proofs.Common.{◌≡◌, ◌==◌, ℕ, Bool, true, false, List, [], ◌∷◌, ◌++◌, None, Option, append-nil, arith, codes, refl, sym, ap, ◌∙◌, subst}
 use Rattle.std.specs.List.{All, slice_split}
 use Rattle.std.proofs.lemmas.List.Elements.{All-head, All-tail}
@@ -20,7 +20,7 @@ look = plain_look
 abbrev drawn_by : Layout → Layout
 drawn_by layout = record layout { selection = record layout.selection { limit = None }; look = look }
 
--- the lines of an output by this layout stand between its line feeds
+-- the lines of an output with this layout are the parts between its line feeds
 lines_of_output : (count : Option ℕ) (layout : Layout) (records : List (List Text)) (output : Text) (lines : List Text) → IsOutputWith count (drawn_by layout) records output lines → slice_split (λ b. b == 0x0A) output ≡ lines ++ [] ∷ []
 lines_of_output count layout records output lines is =
     let are : AreLinesOf is.text lines = subst (λ (b : Bool). HasLines b is.content lines is.text) is.expansion is.has_lines in

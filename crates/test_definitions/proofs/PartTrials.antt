@@ -14,7 +14,7 @@ use Rattle.test_definitions.proofs.TrialTables.{table_of, texts, utf8, with_cons
 abbrev days : TableValue
 days = table_of ascii_full ("Day" ∷ []) (("ab cd" ∷ []) ∷ ("ef" ∷ []) ∷ ("gh ij kl" ∷ []) ∷ [])
 
--- such a table over widths
+-- such a table with these widths
 abbrev over : TableValue → List ℕ → ArrangedValue
 over table widths = record { table = table; infos = infos_of table widths }
 
@@ -24,7 +24,7 @@ middle_and_last : part_lines (over days (3 ∷ [])) 1 2
 unfolding wrapping
 middle_and_last = refl
 
--- rows beyond the last are none
+-- there are no rows after the last one
 beyond_the_last : part_lines (over days (3 ∷ [])) 3 1 ≡ texts ("+-----+" ∷ "| Day |" ∷ "+=====+" ∷ "+-----+" ∷ [])
 unfolding wrapping
 beyond_the_last = refl
@@ -46,7 +46,7 @@ heights_of_hidden : row_heights (over (with_constraints (Some Hidden ∷ []) day
 unfolding wrapping
 heights_of_hidden = refl
 
--- a line that is wider than the table is none of its lines
+-- a line that is wider than the table isn't one of its lines
 -- false: comfy_table::laws::parts_have_lines_of_the_table
 wider_line : ¬ (All (Contains (texts ("+-----+" ∷ []))) (texts ("+------+" ∷ [])))
 unfolding wrapping

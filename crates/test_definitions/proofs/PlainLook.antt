@@ -1,4 +1,4 @@
--- A look that trials change a setting of, so that a new setting is written once.
+-- A look of which trials change one setting, so that a new setting is added at one place.
 use Rattle.std.specs.Prelude.{false, true, None}
 use Rattle.comfy_parts.specs.Presets.{ascii_full}
 use Rattle.csv_tables.specs.declared.options.Expansion.TheVariants.{Never}

@@ -1,4 +1,4 @@
--- Bytes that no text has: the laws of equal counts and of styling need their premises that texts are UTF-8.
+-- Bytes that aren't UTF-8: without this premise, the laws of equal counts and of styling are false.
 use Rattle.std.proofs.Common.{◌≡◌, ℕ, true, false, List, [], ◌∷◌, Option, Some, None, refl, sym, ap, ◌∙◌, arith, append-nil, map, subst}
 use Rattle.std.specs.List.{All}
 use Rattle.unicode_width.specs.Width.{str_width}
@@ -22,7 +22,7 @@ use Rattle.comfy_parts.specs.VisibleText.{visible_text}
 abbrev no_line : LineStyle
 no_line = record { left = None; fill = None; junction = None; right = None }
 
--- nothing is drawn but a right border of this character
+-- only a right border of this character is drawn
 abbrev style_with : Option ℕ → TableStyle
 style_with right =
     record { top_border = no_line; header_lines = record { left = None; junction = None; right = None }; header_separator = no_line; content_lines = record { left = None; junction = None; right = right }; row_separator = no_line; bottom_border = no_line }
@@ -37,7 +37,7 @@ table_with right indicator lines =
 abbrev torn : TableValue
 torn = table_with (Some 0x2502) (0xC3 ∷ []) ((0x61 ∷ []) ∷ (0x61 ∷ []) ∷ [])
 
--- the indicator is even: it has no character, and takes no place
+-- the indicator adds its characters: it has none, and takes no terminal column
 torn_is_even : AddsOneColumnEach (0xC3 ∷ [])
 unfolding wrapping chars
 torn_is_even p printable =
@@ -59,12 +59,12 @@ torn_is_printable =
     printable =
         All-cons (λ line. is_printable_ascii line ≡ true) (0x61 ∷ []) ((0x61 ∷ []) ∷ []) refl (All-cons (λ line. is_printable_ascii line ≡ true) (0x61 ∷ []) [] refl (All-nil (λ line. is_printable_ascii line ≡ true)))
 
--- its one column has the width 1
+-- its only column has the width 1
 torn_is_arranged : IsArranged torn (1 ∷ [])
 unfolding wrapping chars
 torn_is_arranged = record { one_for_each = refl; hidden_widths = refl; shown_widths = refl }
 
--- the indicator stands before the border
+-- the indicator precedes the border
 torn_lines : drawing (unstyled torn) (1 ∷ []) ≡ (0x61 ∷ 0xC3 ∷ 0xE2 ∷ 0x94 ∷ 0x82 ∷ []) ∷ []
 unfolding wrapping chars
 torn_lines = refl
@@ -74,7 +74,7 @@ torn_counts : (count (0x61 ∷ 0xC3 ∷ 0xE2 ∷ 0x94 ∷ 0x82 ∷ []) ≡ 3) ×
 unfolding wrapping chars
 torn_counts = (refl, refl)
 
--- its one line has three characters in place of two
+-- its only line has three characters instead of two
 torn_is_not_equal : ¬ (All (λ line. count line ≡ line_total torn (1 ∷ [])) (drawing (unstyled torn) (1 ∷ [])))
 torn_is_not_equal equal =
     let each = All-head (λ line. count line ≡ line_total torn (1 ∷ [])) _ [] (subst (All (λ line. count line ≡ line_total torn (1 ∷ []))) torn_lines equal) in
@@ -85,7 +85,7 @@ torn_is_not_equal equal =
 abbrev overlong : TableValue
 overlong = table_with None [] ((0xC0 ∷ 0x9B ∷ 0x5B ∷ 0x6D ∷ []) ∷ (0x61 ∷ []) ∷ [])
 
--- the head of the two bytes is ESC in one
+-- the head of the two bytes is read as ESC
 overlong_lines : drawing (unstyled overlong) (3 ∷ []) ≡ (0x1B ∷ 0x5B ∷ 0x6D ∷ []) ∷ []
 unfolding wrapping chars
 overlong_lines = refl
@@ -109,7 +109,7 @@ overlong_shows_nothing : map visible_text (drawing overlong (3 ∷ [])) ≡ [] �
 unfolding wrapping chars
 overlong_shows_nothing = refl
 
--- its one line becomes a sequence, which is taken out of it
+-- its only line becomes a sequence, which is taken out
 overlong_is_not_left : ¬ (map visible_text (drawing overlong (3 ∷ [])) ≡ drawing (unstyled overlong) (3 ∷ []))
 overlong_is_not_left left =
     let same : [] ∷ [] ≡ (0x1B ∷ 0x5B ∷ 0x6D ∷ []) ∷ [] = sym overlong_shows_nothing ∙ left ∙ overlong_lines in

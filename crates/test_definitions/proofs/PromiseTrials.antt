@@ -1,4 +1,4 @@
--- Tables for which the premises of the promises hold, and texts that these promises refuse.
+-- Tables for which the premises of promises hold, and texts that break these promises.
 use Rattle.std.proofs.Common.{◌≡◌, ◌==◌, ◌&&◌, inl, inr, ◌≤◌, ◌<◌, ℕ, zero, suc, Bool, true, false, not, List, [], ◌∷◌, ◌++◌, ◌∙◌, length, length-append, max, flat_map, append-nil, append_assoc, Contains, Option, Some, None, codes, refl, sym, ap, subst, arith, slice_index_or}
 use Rattle.std.specs.List.{All, AllZip, join_by, list_all, slice_get}
 use Rattle.std.specs.Char.{is_control}
@@ -88,7 +88,7 @@ is_free a w first second = (
       (kept_table a w first second).columns (refl, (refl, tt)),
 )
 
--- P holds of each of the four texts
+-- P holds for each of the four texts
 each_of : (a : ContentArrangement) (w : Option ℕ) (P : Text → Type 0) (first second : String) → P (utf8 "day") → P (utf8 "text") → All P (plain_cell (utf8 first)).text_lines → All P (plain_cell (utf8 second)).text_lines → EachText P (kept_table a w first second)
 unfolding encode
 each_of a w P first second day text one other =
@@ -111,7 +111,7 @@ is_narrow a w =
 frame_of_two : frame_room (table_of "3 mai é" "Отчёт") ≡ 9
 frame_of_two = refl
 
--- Chinese: two terminal columns for a character
+-- Chinese: each character takes two terminal columns
 characters_of_two : CharactersFit 2 (utf8 "京都")
 unfolding wrapping encode
 characters_of_two = refl
@@ -135,7 +135,7 @@ FitColumns columns row = (i : ℕ) (column : ColumnInfo) → slice_get columns i
     → column.is_hidden ≡ false → (cell : CellValue) → slice_get row.cells i ≡ Some cell
     → All (CharactersFit column.content_width) cell.text_lines
 
--- so do those of two cells, where each fits its own
+-- the characters of two cells fit if each cell's characters fit its column
 two_fit : (n w : ℕ) (one other : CellValue)
     → All (CharactersFit (max 1 n)) one.text_lines
     → All (CharactersFit (max 1 w)) other.text_lines
@@ -158,8 +158,7 @@ two_fit n w one other first second = at
         fit (info_of (new_column 1) w) column other cell is found second
     at (suc (suc i)) column is visible cell found = absurd (cc found)
 
--- each character has room in its own column: digits in one of one terminal column, Chinese in one
--- of two
+-- each character has room in its own column: digits in a column of one terminal column, Chinese in one of two
 characters_fit_their_columns : CharactersFitColumns (table_of "17" "京都") (columns_of 1 2)
 unfolding wrapping encode
 characters_fit_their_columns =
@@ -177,13 +176,13 @@ characters_fit_their_columns =
         → All (CharactersFit w) (utf8 s ∷ [])
     one_line w s own = All-from_recursion (CharactersFit w) (utf8 s ∷ []) (own, tt)
 
--- what holds of all texts holds of the shown ones
+-- a property of all texts is one of the shown texts
 shown_of_all : (P : Text → Type 0) (table : TableValue) → EachText P table → EachShownText P table
 shown_of_all P table each =
     All-every (λ (p : ℕ × ColumnValue). All (λ (row : RowValue). (cell : CellValue) → slice_get row.cells p.0 ≡ Some cell → All P cell.text_lines) (header_and_rows table)) (shown_columns table)
     (λ p k default under cell found. All-at (λ (c : CellValue). All P c.text_lines) (slice_index_or (header_and_rows table) k default).cells p.0 cell (each k default under) found)
 
--- none of these is a control character
+-- none of these characters is a control character
 no_controls : HasNoControls (table_of "é" "Отчёт")
 unfolding wrapping encode
 no_controls =
@@ -195,14 +194,14 @@ no_controls =
       style = refl;
     }
 
--- a hidden column, whatever stands in it
+-- a hidden column with any text
 abbrev hiding : String → TableValue
 hiding secret = let table : TableValue = table_of secret "oats" in record table { columns = constrained (Hidden ∷ []) table.columns }
 
 hidden_is_gone : without_hidden (hiding "secret") ≡ without_hidden (hiding "other")
 hidden_is_gone = refl
 
--- a row that has room: each cell below one of the header's that is as wide
+-- a row that has room: each of its cells is below a header cell that is as wide
 has_room : HasRoomFor (table_of "3 mai é" "Отчёт") (row_of "day" "text")
 has_room = record { columns = omega arith; widths = λ i cell found. at i cell found }
   where
@@ -217,17 +216,17 @@ has_room = record { columns = omega arith; widths = λ i cell found. at i cell f
 
 -- ---- what is refused
 
--- a character of two columns where one is allowed
+-- a character of two terminal columns, though one is allowed
 pub wide_is_refused : ¬ (CharactersFit 1 (utf8 "京"))
 unfolding wrapping encode
 wide_is_refused is = cc is
 
--- U+FE01, which widens a quotation mark, alone is no character of two columns
+-- U+FE01, which widens a quotation mark, takes at most two terminal columns alone
 widening_alone : CharactersFit 1 (encode_utf8_all (0xFE01 ∷ []))
 unfolding wrapping encode
 widening_alone = refl
 
--- but not directly beside another selector, at either side
+-- but it doesn't fit directly beside another selector, on either side
 pub widening_behind_a_selector : ¬ (CharactersFit 2 (encode_utf8_all (0x201C ∷ 0xFE0F ∷ 0xFE01 ∷ [])))
 unfolding wrapping encode
 widening_behind_a_selector is = cc is
@@ -236,7 +235,7 @@ widening_before_a_selector : ¬ (CharactersFit 2 (encode_utf8_all (0x201C ∷ 0x
 unfolding wrapping encode
 widening_before_a_selector is = cc is
 
--- a character of two columns in a column of one, though the other one has room
+-- a character of two terminal columns in a column of one, though the other column has room
 wide_in_the_narrow_column : ¬ (CharactersFitColumns (table_of "京" "17") (columns_of 1 2))
 unfolding wrapping encode
 wide_in_the_narrow_column fit =
@@ -249,26 +248,26 @@ wide_in_the_narrow_column fit =
 bold_shows : Shows (codes "\u{1b}[1ma\u{1b}[0m") (codes "a")
 bold_shows = sequence (codes "1") (codes "a\u{1b}[0m") (codes "a") refl (byte 0x61 (codes "\u{1b}[0m") [] refl (sequence (codes "0") [] [] refl nothing))
 
--- ESC alone is no beginning of a harmless text
+-- a harmless text doesn't begin with a lone ESC
 lone_escape : {text shown : Text} → Shows text shown → ¬ (text ≡ 0x1B ∷ [])
 lone_escape nothing is = cc is
 lone_escape (byte b text shown clear rest) is = let same : b ≡ 0x1B = cc is in cc (clear, ap (λ c. c == 0x1B) same)
 lone_escape (sequence code text shown all rest) is = cc is
 
--- nor is one that clears the screen, ESC, `[`, `2`, `J`, though `m` follows
+-- nor with a sequence that clears the screen, ESC, `[`, `2`, `J`, though `m` follows
 clear_screen : {text shown : Text} → Shows text shown → ¬ (text ≡ codes "\u{1b}[2Jm")
 clear_screen nothing is = cc is
 clear_screen (byte b text shown clear rest) is = let same : b ≡ 0x1B = cc is in cc (clear, ap (λ c. c == 0x1B) same)
 clear_screen (sequence code text shown all rest) is = no_parameters code text all (cc is)
 
--- a text without ESC shows itself alone
+-- a text without ESC is its own visible text
 pub shows_itself : {text shown : Text} → Shows text shown → HasNo 0x1B text → shown ≡ text
 shows_itself nothing none = refl
 shows_itself (byte b text shown clear rest) none =
     ap (λ (t : Text). b ∷ t) (shows_itself rest (or_parts (b == 0x1B) _ none).1)
 shows_itself (sequence code text shown all rest) none = absurd (cc none)
 
--- a control character does, so it is no harmless text
+-- a control character acts on the terminal, so a text with it isn't harmless
 abbrev speaks : ℕ → Bool
 speaks c = is_control c && not (c == 0x0A)
 
@@ -282,7 +281,7 @@ control_is_harmful c below clear is (shown, shows, none) =
 bell_is_harmful : ¬ (IsHarmless (0x07 ∷ []))
 bell_is_harmful = control_is_harmful 0x07 (omega arith) refl refl
 
--- nor is a carriage return, ESC alone, or a sequence that clears the screen
+-- nor is a carriage return, a lone ESC, or a sequence that clears the screen
 return_is_harmful : ¬ (IsHarmless (0x0D ∷ []))
 return_is_harmful = control_is_harmful 0x0D (omega arith) refl refl
 
@@ -327,12 +326,12 @@ uneven_styled_lines : ¬ (AreShownStraight (table_of "é" "Отчёт") uneven)
 uneven_styled_lines is =
     uneven_is_not_shown_straight (is no_controls (has_plain_frame Disabled None "é" "Отчёт") e_fits)
 
--- nor where each character has room in its column
+-- nor are they straight if each character has room in its column
 uneven_fitting_lines : ¬ (AreStraightWhereCharactersFit (table_of "17" "京都") (columns_of 1 2) uneven)
 uneven_fitting_lines (are, straight) =
     shorter_line (straight (is_plain Disabled None "17" "京都") (has_plain_frame Disabled None "17" "京都") characters_fit_their_columns)
 
--- a line of ten terminal columns, where the frame takes nine
+-- a line of ten terminal columns, though the frame takes nine
 pub ten : measure (codes "0123456789") ≡ 10
 unfolding wrapping
 ten = refl
@@ -378,14 +377,14 @@ word_table text = cell_table false (plain_cell text)
 abbrev word : List Attribute → CellValue
 word attributes = record (plain_cell (codes "ab")) { attributes = attributes }
 
--- in a table that may write styles
+-- the word in a table that may write styles
 abbrev styled_word : Bool → TableValue
 styled_word styles = cell_table styles (word [])
 
 abbrev place : ℕ × ColumnValue
 place = (0, new_column 0)
 
--- a slice that is all of a word is the word
+-- a single slice with all of a word is the word
 only_slice : (slice : Text) → AreSlicesOf 0x20 (codes "ab") (slice ∷ []) → slice ≡ codes "ab"
 unfolding encode
 only_slice slice (inl whole) = cc whole
@@ -424,7 +423,7 @@ piece_is styles w part line [] zip made = absurd zip
 piece_is styles w part line (piece ∷ other ∷ pieces) zip made = absurd zip.1
 piece_is styles w part line (piece ∷ []) zip made = subst (IsPiece styles Left (new_column 0) w part) (sym (made ∙ append-nil (piece ++ []) ∙ append-nil piece)) zip.0
 
--- a line that shows the word is a piece of it
+-- a line that shows the word is a piece with it
 word_is : (styles : Bool) (attributes : List Attribute) (line : Text) → AreShown (ShowsRow (cell_table styles (word attributes))) (cell_table styles (word attributes)) (line ∷ [])
     → (w : ℕ) × IsPiece (is_styled (should_style (cell_table styles (word attributes))) (plain_row (word attributes ∷ [])) place) Left (new_column 0) w (codes "ab") line
 word_is styles attributes line (width, is) = (
@@ -455,29 +454,29 @@ word_is styles attributes line (width, is) = (
 torn_word : ¬ (AreShown (ShowsRow (styled_word false)) (styled_word false) (codes " a      b " ∷ []))
 torn_word is = let own = word_is false [] (codes " a      b ") is in no_ab_inside (codes " a      b ") refl own.1.before own.1.after own.1.drawn
 
--- nor is it another text where styles are written
+-- it isn't another text if styles are written
 other_styled_word : ¬ (AreShown (ShowsRow (styled_word true)) (styled_word true) (codes " XY " ∷ []))
 other_styled_word is = let own = word_is true [] (codes " XY ") is in no_ab_inside (codes " XY ") refl own.1.before own.1.after own.1.drawn
 
--- nor has it a sequence inside, if it has an attribute
+-- it has no sequence inside, if it has an attribute
 coloured_inside : ¬ (AreShown (ShowsRow (cell_table true (word (Bold ∷ [])))) (cell_table true (word (Bold ∷ []))) (codes " a\u{1b}[31mb " ∷ []))
 coloured_inside is = let own = word_is true (Bold ∷ []) (codes " a\u{1b}[31mb ") is in no_ab_inside (codes " a\u{1b}[31mb ") refl own.1.before own.1.after own.1.drawn
 
--- nor one beside it, if it has none
+-- it has no sequence beside it, if it has no attribute
 hidden_word : ¬ (AreShown (ShowsRow (styled_word true)) (styled_word true) (codes "\u{1b}[8m ab " ∷ []))
 hidden_word is =
     let own = word_is true [] (codes "\u{1b}[8m ab ") is in
     let escape : ◌≡◌ {A = ℕ} 0x1B 0x61 = cc (squeezed-piece (new_column 0) own.0 (codes "ab") (codes "\u{1b}[8m ab ") own.1) in absurd (omega (arith, escape))
 
--- nor has its slice one letter less
+-- its slice doesn't lack a letter
 lost_letter : ¬ (AreSlicesOf 0x20 (codes "ab") (codes "a" ∷ []))
 lost_letter own = cc (only_slice (codes "a") own)
 
--- nor has it another letter beside it
+-- it has no other letter beside it
 word_with_more : ¬ (AreShown (ShowsRow (styled_word false)) (styled_word false) (codes " abs " ∷ []))
 word_with_more is = let own = word_is false [] (codes " abs ") is in cc (squeezed-piece (new_column 0) own.0 (codes "ab") (codes " abs ") own.1)
 
--- nor is a text where the row has no cell
+-- there is no text if the row has no cell
 text_without_a_cell : (width : ℕ → ℕ) → ¬ (ShowsRow (styled_word false) width presets.nothing.content_lines (plain_row []) (codes " x " ∷ []))
 text_without_a_cell width row =
     let here = row.shown.drawn 0 (omega arith) in
@@ -485,7 +484,7 @@ text_without_a_cell width row =
     let own = piece_is false (width 0) (slice_index_or (row.slices place) 0 []) (codes " x ") here.0 here.1 here.2 in
     cc (squeezed-piece (new_column 0) (width 0) (slice_index_or (row.slices place) 0 []) (codes " x ") own ∙ ap squeezed part)
 
--- and 1 isn't shown by 91.50
+-- `91.50` doesn't show `1`
 other_whole_text : ¬ (AreShown (ShowsWholeRow (word_table (codes "1"))) (word_table (codes "1")) (codes " 91.50 " ∷ []))
 other_whole_text (width, is) =
     let row = block_is false (plain_cell (codes "1")) (ShowsWholeRow (word_table (codes "1")) width) width (codes " 91.50 " ∷ []) is in
@@ -493,7 +492,7 @@ other_whole_text (width, is) =
     let own = piece_is false (width 0) (codes "1") (codes " 91.50 ") here.0 here.1 here.2 in
     let digit : ◌≡◌ {A = ℕ} 0x39 0x31 = cc (squeezed-piece (new_column 0) (width 0) (codes "1") (codes " 91.50 ") own) in absurd (omega (arith, digit))
 
--- nor is a whole text in two lines
+-- a whole text isn't on two lines
 sliced_text : (width : ℕ → ℕ) → ¬ (ShowsWholeRow (word_table (codes "ab")) width presets.nothing.content_lines (plain_row (plain_cell (codes "ab") ∷ [])) (codes " a " ∷ codes " b " ∷ []))
 sliced_text width shows = let high : 2 ≡ 1 = shows.as_high in absurd (omega (arith, high))
 
@@ -518,7 +517,7 @@ no_lines_are_no_table is = cc (is.unstyled refl refl ∙ is.is_plain.framed.fram
 
 -- ---- tables that don't meet the conditions
 
--- colours are written, or texts are searched for sequences
+-- colours are written, or sequences count nothing
 writes_styles : ¬ (IsPlain (styled_word true))
 writes_styles is = cc is.no_styles
 
@@ -543,7 +542,7 @@ cut_row is = cc (is.uncut 0 (row_of "ab" "cd") (omega arith))
 hidden_column : ¬ (IsFree (record (word_table (codes "ab")) { columns = record (new_column 0) { constraint = Some Hidden } ∷ [] }))
 hidden_column is = let none : 0 < 0 = is.0 in absurd (omega (arith, none))
 
--- a bell stands in a shown text, in the indicator, or in the style
+-- a bell is in a shown text, in the indicator, or in the style
 bell_speaks : ¬ (NoCharPasses is_control (0x07 ∷ []))
 bell_speaks none = let isnt : true ≡ false = NoCharPasses-byte is_control (0x07 ∷ []) 0 none (omega arith) (omega arith) in cc isnt
 
@@ -556,7 +555,7 @@ bell_in_the_indicator free = bell_speaks free.indicator
 bell_in_the_style : ¬ (HasNoControls (new_table (record presets.nothing { content_lines = record presets.nothing.content_lines { left = Some 0x07 } })))
 bell_in_the_style free = cc free.style
 
--- another text stands in a shown column
+-- another text is in a shown column
 other_shown_text : ¬ (without_hidden (word_table (codes "ab")) ≡ without_hidden (word_table (codes "ac")))
 other_shown_text same =
     let letter : 0x62 ≡ 0x63 = ap (λ (t : TableValue). slice_index (slice_index_or (slice_index_or (slice_index_or t.rows 0 (plain_row [])).cells 0 (plain_cell [])).text_lines 0 []) 1) same in
@@ -580,7 +579,7 @@ wider_cell room = by_row own.0 own.1 own.2 own.3 own.4
         let one : 1 ≡ cell_content_width other = ap cell_content_width same in
         omega (arith, wide, one)
 
--- a line stands above those that were there, or one of them is gone
+-- a line is above those that were there, or one of them is missing
 line_above : ¬ (Stay (word_table (codes "a")) (codes "a" ∷ codes "b" ∷ []) (codes "c" ∷ codes "a" ∷ codes "b" ∷ []))
 line_above (above, added, widths, before, after) = by_above above before after
   where

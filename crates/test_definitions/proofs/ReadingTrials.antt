@@ -1,4 +1,5 @@
--- What is read of a text: the lines that are left out, and what stands between fields. And which fields aren't broken.
+-- Reading of texts: the lines that are left out, and the delimiter. Then fields that aren't broken, and inputs that
+-- aren't CSV.
 use Rattle.std.proofs.Common.{◌≡◌, ℕ, Bool, true, false, List, [], ◌∷◌, ◌++◌, Option, Some, None, codes, map, refl}
 use Prim.Native.String.{String}
 use Rattle.std.specs.Fmt.{digits}
@@ -32,22 +33,22 @@ texts words = map (λ (word : String). codes word) words
 
 -- ---- lines
 
--- a carriage return with a line feed is one end; two line feeds are two, with an empty line between them
+-- a carriage return with a line feed is one line end; two line feeds are two, with an empty line between them
 lines_below : map (λ (count : ℕ). below_lines count (codes "a\r\n\nb\rc")) (0 ∷ 1 ∷ 2 ∷ 3 ∷ 4 ∷ 9 ∷ []) ≡ texts ("a\r\n\nb\rc" ∷ "\nb\rc" ∷ "b\rc" ∷ "c" ∷ "" ∷ "" ∷ [])
 lines_below = refl
 
--- ---- what stands between fields
+-- ---- the delimiter
 
--- how many records have the commonest number of fields above 1
+-- the number of records that have the commonest number of fields above 1
 agreements : map agreement ([] ∷ (1 ∷ 1 ∷ 1 ∷ []) ∷ (3 ∷ 3 ∷ 2 ∷ []) ∷ (1 ∷ 1 ∷ 1 ∷ 4 ∷ []) ∷ (2 ∷ 5 ∷ 2 ∷ 5 ∷ 3 ∷ 5 ∷ []) ∷ []) ≡ 0 ∷ 0 ∷ 2 ∷ 1 ∷ 3 ∷ []
 agreements = refl
 
--- the delimiter by which the most records agree
+-- the delimiter with which most records agree
 found_ones : map (λ (input : String). (delimited Auto true (codes input)).0) ("a\tb\n1\t2\n" ∷ "a;b\n1;2,5\n" ∷ "a,b\n1,2;3\n" ∷ "a|b,c\n1|2\n" ∷ []) ≡ 0x09 ∷ 0x3B ∷ 0x2C ∷ 0x7C ∷ []
 unfolding strip_bom records_from next_record
 found_ones = refl
 
--- where some records lack a field or have one more, and below lines of another form
+-- some records lack a field or have one more, or are below other lines
 ragged :
     map (λ (input : String). (delimited Auto true (codes input)).0)
     ("a\tb\tc\n1\t2,5\t3,5\n4\t5\n" ∷ "Datum;Betrag\n1.2.;3,5\nSumme\n" ∷ "a,b\n1,2\n3\n4,5;6\n" ∷ "Konto|1\nStand\na,b\n1,2\n3,4,5\n" ∷ [])
@@ -55,12 +56,12 @@ ragged :
 unfolding strip_bom records_from next_record
 ragged = refl
 
--- of several the first in the order TAB, `;`, `,`, `|`
+-- of several delimiters, the first in the order TAB, `;`, `,`, `|`
 ties : map (λ (input : String). (delimited Auto true (codes input)).0) ("a,b;c\n1,2;3\n" ∷ "a\tb;c\n" ∷ "a|b,c\n" ∷ "a;b\n1,2\n" ∷ []) ≡ 0x3B ∷ 0x09 ∷ 0x2C ∷ 0x3B ∷ []
 unfolding strip_bom records_from next_record
 ties = refl
 
--- a comma where none parts a record
+-- a comma if no delimiter separates the fields of a record
 none_found : map (λ (input : String). (delimited Auto true (codes input)).0) ("" ∷ "a b\n" ∷ "a\n1\n" ∷ []) ≡ 0x2C ∷ 0x2C ∷ 0x2C ∷ []
 unfolding strip_bom records_from next_record
 none_found = refl
@@ -70,7 +71,8 @@ none_found = refl
 abbrev below_two : InputOptions
 below_two = record { encoding = None; skip = 2; delimiter = Auto; has_quotes = true }
 
--- of the first of them the line, also behind quoted lines and empty ones, how many others there are, and whether these are all that follow
+-- the line of the first such record, also after quoted lines and empty ones, the number of the others, and whether
+-- these are all that follow
 longer_ones : map (λ (input : String). longer_records below_two (codes input) (records_from (config_for 0x2C true) 9 st.StartRecord (strip_bom (codes input))))
     ("a,b\n\"x\ny\",1\n\r\n2,b,c\n" ∷ "a,b\n1\n2,3\n" ∷ "a\r\n1\r\n2,3\r\n4,5,6" ∷ "a\n1,2\n3\n4,5\n" ∷ "a\n1,2\n3\n" ∷ "" ∷ [])
     ≡ Some (record { line = 7; fields = 3; first_fields = 2; others = 0; lasts = true }) ∷ None ∷ Some (record { line = 5; fields = 2; first_fields = 1; others = 1; lasts = true })
@@ -87,7 +89,7 @@ without_quotes : map (λ (has_quotes : Bool). (delimited Auto has_quotes (codes 
 unfolding strip_bom records_from next_record
 without_quotes = refl
 
--- a first line that names it, which is no record; also behind a mark, and before the name of a file counts
+-- a first line that names the delimiter, which isn't a record; also after a mark, and it overrides the name of a file
 by_line : map (λ (delimiter : Delimiter). delimited delimiter true (codes "sep=;\r\na;b\n")) (Auto ∷ NamedOrTab ∷ Byte 0x2C ∷ []) ≡ (0x3B, codes "a;b\n") ∷ (0x3B, codes "a;b\n") ∷ (0x2C, codes "sep=;\r\na;b\n") ∷ []
 unfolding strip_bom records_from next_record
 by_line = refl
@@ -125,14 +127,14 @@ unbroken : list_all is_nowrap (texts ("" ∷ "-84,50" ∷ "($3.00)" ∷ "02.05.2
 unfolding chars lib.Utf8.encode ucd_category is_neutral is_number
 unbroken = refl
 
--- words, and what is longer than 25 characters
+-- words, and texts of more than 25 characters
 broken : list_any is_nowrap (texts ("no" ∷ "May 2" ∷ "1.2.3b" ∷ "12345678901234567890123456" ∷ [])) ≡ false
 unfolding chars lib.Utf8.encode ucd_category is_neutral is_number
 broken = refl
 
 -- ---- signs that an input is no text in UTF-8
 
--- by the first bytes, and nearly so
+-- kinds of input by their first bytes, and inputs with nearly these bytes
 fronts :
     map (not_text_for None 1)
     (
@@ -141,34 +143,35 @@ fronts :
     ≡ Some Xz ∷ Some Zstd ∷ Some Bzip2 ∷ Some Pdf ∷ None ∷ None ∷ None ∷ []
 fronts = refl
 
--- a page below a line that is left out, and a word that begins nearly so
+-- a page below a line that is left out, and a word with nearly the same beginning
 html_inputs : map (λ (input : String). not_text_for None 1 (codes input)) ("\n <!DOCTYPE HTML>" ∷ "\n<html lang=\"en\">" ∷ "<html>\na,b" ∷ "\n<htm>" ∷ "\na<html>" ∷ [])
     ≡ Some Html ∷ Some Html ∷ None ∷ None ∷ None ∷ []
 html_inputs = refl
 
--- where no encoding is asked for: gzip, zip, NULs at every second byte, in either order, and other NULs
+-- without a set encoding: gzip, zip, NULs at every second byte, in either order, and other NULs
 not_text_inputs :
     map (not_text_for None 0) ((0x1F ∷ 0x8B ∷ []) ∷ (0x50 ∷ 0x4B ∷ 3 ∷ 4 ∷ []) ∷ (0x61 ∷ 0 ∷ 0x2C ∷ 0 ∷ []) ∷ (0 ∷ 0x61 ∷ 0 ∷ 0x2C ∷ []) ∷ (0x61 ∷ 0x0A ∷ 0 ∷ []) ∷ (0 ∷ 0 ∷ 0 ∷ 0 ∷ []) ∷ [])
     ≡ Some Gzip ∷ Some Zip ∷ Some UnmarkedUtf16 ∷ Some UnmarkedUtf16 ∷ Some (Binary 2) ∷ Some (Binary 1) ∷ []
 not_text_inputs = refl
 
--- JSON, and headers that look a little like it
+-- JSON, and headers that look similar
 json_inputs : map (λ (input : String). not_text_for None 1 (codes input)) ("\n[\n  {\n" ∷ "\n{ \"a\": 1}\n" ∷ "\n[[1]]" ∷ "\n[\"a\"]" ∷ "\n\"{\"\"a\"\": 1}\"" ∷ "\n[a],b\n" ∷ "\n{" ∷ "[{" ∷ [])
     ≡ Some Json ∷ Some Json ∷ Some Json ∷ Some Json ∷ None ∷ None ∷ None ∷ None ∷ []
 json_inputs = refl
 
--- words that begin so, a mark of UTF-16, and an encoding that is asked for
+-- words with nearly these beginnings, a mark of UTF-16, and a set encoding
 no_signs : map (not_text_for None 0) ((0x1F ∷ []) ∷ (0x50 ∷ 0x4B ∷ 0x2C ∷ 4 ∷ []) ∷ (0xFF ∷ 0xFE ∷ 0x61 ∷ 0 ∷ []) ∷ []) ≡ None ∷ None ∷ None ∷ []
 no_signs = refl
 
 asked_for : not_text_for (Some Utf8) 0 (0x61 ∷ 0 ∷ 0x2C ∷ 0 ∷ []) ≡ None
 asked_for = refl
 
--- NULs in lines that are left out are none, and lines count from the input's front
+-- NULs in lines that are left out don't count, and lines are counted from the start of the input
 below_a_nul : map (λ (skip : ℕ). not_text_for None skip (0 ∷ 0x0A ∷ 0x61 ∷ 0x0A ∷ 0 ∷ [])) (0 ∷ 1 ∷ 2 ∷ 3 ∷ []) ≡ Some (Binary 1) ∷ Some (Binary 3) ∷ Some (Binary 3) ∷ None ∷ []
 below_a_nul = refl
 
--- of control characters TAB, line feed, form feed and carriage return are text; five bytes of Windows-1252 are none
+-- the control characters of text are TAB, line feed, form feed and carriage return; five bytes of Windows-1252 are
+-- undefined
 like_cp1252 : map is_like_cp1252 ((0x61 ∷ 0xE4 ∷ 0x80 ∷ 9 ∷ 0x0A ∷ 0x0C ∷ 0x0D ∷ []) ∷ (0x1B ∷ []) ∷ (0x7F ∷ []) ∷ (0x81 ∷ []) ∷ (0x9D ∷ []) ∷ []) ≡ true ∷ false ∷ false ∷ false ∷ false ∷ []
 like_cp1252 = refl
 

@@ -1,4 +1,5 @@
--- What `csvtable` makes of fields and columns: numbers, control characters, Markdown, chosen columns, alignment. And what words ask for.
+-- Fields and columns of `csvtable`: numbers, control characters, Markdown, chosen columns, alignment. Then the options
+-- for words.
 use Rattle.std.proofs.Common.{◌≡◌, ℕ, Bool, true, false, List, [], ◌∷◌, ◌++◌, Option, Some, None, Ok, Err, codes, decimal, encode_utf8_all, fold, map, refl, arith, length, take}
 use Prim.Native.String.{String}
 use Rattle.comfy_parts.proofs.Computing.{wrapping}
@@ -49,12 +50,13 @@ numbers : list_all is_number (texts ("0" ∷ "-12" ∷ "+12.50" ∷ ".5" ∷ "5.
 unfolding chars lib.Utf8.encode ucd_category is_number
 numbers = refl
 
--- with groups; one mark with three digits behind it is a decimal mark or parts groups, and a number either way
+-- numbers with groups; one mark with three digits after it is a decimal mark or a group mark, and the field is a number
+-- either way
 grouped_numbers : list_all is_number (texts ("1,234" ∷ "1234,567" ∷ "1_000" ∷ "1'234.5" ∷ "1 234,5" ∷ "-1,234.5" ∷ "1.234,56" ∷ "12.345.678" ∷ "1.234.567.890" ∷ "1.000.000.000,5" ∷ "1,234e5" ∷ [])) ≡ true
 unfolding chars lib.Utf8.encode ucd_category is_number
 grouped_numbers = refl
 
--- U+2212, a pound, a euro behind a space at which no line breaks, and a narrow such space between groups
+-- U+2212, a pound, a euro after U+00A0, and U+202F between groups
 numbers_beyond_ascii : list_all is_number (map encode_utf8_all ((0x2212 ∷ 0x33 ∷ []) ∷ (0x2D ∷ 0xA3 ∷ 0x35 ∷ []) ∷ (0x31 ∷ 0x32 ∷ 0xA0 ∷ 0x20AC ∷ []) ∷ (0x31 ∷ 0x202F ∷ 0x32 ∷ 0x33 ∷ 0x34 ∷ []) ∷ [])) ≡ true
 unfolding chars lib.Utf8.encode ucd_category is_number
 numbers_beyond_ascii = refl
@@ -63,7 +65,7 @@ no_numbers : list_any is_number (texts ("" ∷ "-" ∷ "." ∷ "$" ∷ "%" ∷ "
 unfolding chars lib.Utf8.encode ucd_category is_number
 no_numbers = refl
 
--- a minus directly behind the figure
+-- a minus directly after the figure
 later_signs : list_all is_number (texts ("1.250,00-" ∷ "5-" ∷ "EUR 5-" ∷ "5- EUR" ∷ "5-%" ∷ [])) ≡ true
 unfolding chars lib.Utf8.encode ucd_category is_number
 later_signs = refl
@@ -81,12 +83,12 @@ measured_numbers : list_all is_number (texts ("1.5K" ∷ "23M" ∷ "4 GiB" ∷ "
 unfolding chars lib.Utf8.encode ucd_category is_number
 measured_numbers = refl
 
--- millionths of a second with either letter, behind a narrow space at which no line breaks
+-- millionths of a second with either letter, after a narrow no-break space
 millionths : list_all is_number (map encode_utf8_all ((0x33 ∷ 0xB5 ∷ 0x73 ∷ []) ∷ (0x33 ∷ 0x202F ∷ 0x03BC ∷ 0x73 ∷ []) ∷ [])) ≡ true
 unfolding chars lib.Utf8.encode ucd_category is_number
 millionths = refl
 
--- no code or unit of these rules, or more than one, or two spaces
+-- words that aren't codes or units here, more than one of them, or two spaces
 no_units : list_any is_number (texts ("usd 5" ∷ "5 XXX" ∷ "5 XAU" ∷ "5 ABC" ∷ "EURO 5" ∷ "EUR5EUR" ∷ "5 m" ∷ "5kb" ∷ "5 KIB" ∷ "5iB" ∷ "5 kBB" ∷ "kB 5" ∷ "5 hr" ∷ "5 D" ∷ "$5K" ∷ "5K%" ∷ "EUR 5 kB" ∷ "USD  5" ∷ "5  kB" ∷ "1e" ∷ "5 KR" ∷ "r$ 5" ∷ "R 5" ∷ [])) ≡ false
 unfolding chars lib.Utf8.encode ucd_category is_number
 no_units = refl
@@ -96,11 +98,11 @@ spaced_numbers : list_all is_number (map encode_utf8_all ((0x20 ∷ 0x20 ∷ 0x3
 unfolding chars lib.Utf8.encode ucd_category is_number
 spaced_numbers = refl
 
--- a figure stands between what is before its first digit or mark and what is behind its last one
+-- the figure goes from the first digit or mark to the last one, with the text before it and the text after it
 figure_parts : map (λ part. part (codes "-$ 1,234.5 kB")) (front_of ∷ figure_of ∷ back_of ∷ []) ≡ texts ("-$ " ∷ "1,234.5" ∷ " kB" ∷ [])
 figure_parts = refl
 
--- groups of another length, and of two marks
+-- groups of another length, and groups with two different marks
 ungrouped_digits : list_any is_number (texts ("1 2" ∷ "1,2,3" ∷ "1_00" ∷ "12,34,567" ∷ "1234,567,890" ∷ "1,234.567,890" ∷ "1.234,567.8" ∷ [])) ≡ false
 unfolding chars lib.Utf8.encode ucd_category is_number
 ungrouped_digits = refl
@@ -114,7 +116,7 @@ neutral_fields : list_all is_neutral (texts ("" ∷ "-" ∷ "n/a" ∷ "N/A" ∷ 
 unfolding chars lib.Utf8.encode is_neutral
 neutral_fields = refl
 
--- so are `\N`, two dashes, and spaces and line breaks alone
+-- `\N`, two dashes, and spaces and line breaks alone are neutral too
 blank_fields : list_all is_neutral (map encode_utf8_all ((0x5C ∷ 0x4E ∷ []) ∷ (0x2013 ∷ []) ∷ (0x20 ∷ 0x2014 ∷ []) ∷ (0x20 ∷ 0x0A ∷ []) ∷ (0x0D ∷ 0x0A ∷ 0x09 ∷ []) ∷ (0xA0 ∷ 0x202F ∷ []) ∷ [])) ≡ true
 unfolding chars lib.Utf8.encode is_neutral
 blank_fields = refl
@@ -128,7 +130,7 @@ telling_fields = refl
 abbrev drawn : Bool → List ℕ → Text
 drawn keeps_sequences characters = (fold after_piece start (pieces keeps_sequences characters)).text
 
--- TABs go to the next multiple of four, and each line begins anew
+-- TABs go to the next multiple of four terminal columns, and each line begins at a tab stop
 tabs : drawn false (0x61 ∷ 0x09 ∷ 0x62 ∷ 0x09 ∷ 0x09 ∷ 0x63 ∷ 0x0A ∷ 0x09 ∷ 0x64 ∷ []) ≡ codes "a   b       c" ++ 0x0A ∷ codes "    d"
 unfolding wrapping lib.Utf8.encode
 tabs = refl
@@ -138,7 +140,7 @@ wide_before_a_tab : drawn false (0x738B ∷ 0x09 ∷ 0x62 ∷ []) ≡ 0xE7 ∷ 0
 unfolding wrapping lib.Utf8.encode
 wide_before_a_tab = refl
 
--- a letter with an accent takes one, and a flag of two characters takes two
+-- a letter with an accent takes one terminal column, and a flag of two characters takes two
 joined_before_a_tab : drawn false (0x65 ∷ 0x0301 ∷ 0x09 ∷ 0x62 ∷ []) ≡ 0x65 ∷ 0xCC ∷ 0x81 ∷ codes "   b"
 unfolding wrapping lib.Utf8.encode
 joined_before_a_tab = refl
@@ -159,7 +161,7 @@ control_characters : drawn false (0x07 ∷ 0x1B ∷ []) ≡ replacement ++ repla
 unfolding wrapping lib.Utf8.encode
 control_characters = refl
 
--- so do an override, an isolate and their ends; a mark for the direction stays
+-- an override, an isolate and their ends become U+FFFD too; a direction mark stays
 directions : drawn false (0x202E ∷ 0x202C ∷ 0x2066 ∷ 0x2069 ∷ 0x200F ∷ []) ≡ replacement ++ (replacement ++ (replacement ++ (replacement ++ 0xE2 ∷ 0x80 ∷ 0x8F ∷ [])))
 unfolding wrapping lib.Utf8.encode
 directions = refl
@@ -168,12 +170,13 @@ sequence_without_ansi : drawn false (codes "\u{1b}[1m") ≡ replacement ++ codes
 unfolding wrapping lib.Utf8.encode
 sequence_without_ansi = refl
 
--- SGR sequences stay where they count nothing
+-- SGR sequences stay if they are kept
 kept_sequences : drawn true (codes "\u{1b}[31ma \u{1b}[0m") ≡ codes "\u{1b}[31ma \u{1b}[0m"
 unfolding wrapping lib.Utf8.encode
 kept_sequences = refl
 
--- no other ESC does: one that writes to the clipboard, one that clears the screen, and the first of two before a sequence
+-- an ESC of another sequence is replaced: one that writes to the clipboard, one that clears the screen, and the first
+-- of two before a sequence
 clipboard : drawn true (codes "\u{1b}]52;c;aGk=") ≡ replacement ++ codes "]52;c;aGk="
 unfolding wrapping lib.Utf8.encode
 clipboard = refl
@@ -186,7 +189,7 @@ escape_before_a_sequence : drawn true (codes "\u{1b}\u{1b}[1m[1m") ≡ replaceme
 unfolding wrapping lib.Utf8.encode
 escape_before_a_sequence = refl
 
--- a TAB goes to the same stop with a sequence before it
+-- with a sequence before it, a TAB goes to the same stop
 tab_after_a_sequence : drawn true (codes "a\u{1b}[31m" ++ 0x09 ∷ codes "b") ≡ codes "a\u{1b}[31m   b"
 unfolding wrapping lib.Utf8.encode
 tab_after_a_sequence = refl
@@ -196,18 +199,18 @@ tab_after_a_sequence = refl
 escapes : escaped (codes "a|b<c" ++ 0x0A ∷ 0x5C ∷ []) ≡ codes "a" ++ 0x5C ∷ codes "|b" ++ 0x5C ∷ codes "<c<br>" ++ 0x5C ∷ 0x5C ∷ []
 escapes = refl
 
--- an underscore behind no letter, before another one; behind a letter; and the last one
+-- an underscore at the start, before another one; an underscore after a letter; and a single one
 underscores : map escaped (texts ("_a_" ∷ "a_b_" ∷ "_" ∷ [])) ≡ texts ("\\_a_" ∷ "a_b_" ∷ "_" ∷ [])
 unfolding is_alphabetic in_ranges alphabetic_ranges
 underscores = refl
 
--- an address has no backslash, or has one in front where one would stand in it
+-- an address has no backslash inside it, but may have one before it
 addresses :
     map escaped (texts ("http://a.b/?c=1&d=2" ∷ "http://a.b/?c&d;" ∷ "www.a.b/~c" ∷ "www.a.b/~c~ w." ∷ []))
     ≡ texts ("http://a.b/?c=1&d=2" ∷ "http\\://a.b/?c\\&d;" ∷ "www.a.b/~c" ∷ "www\\.a.b/\\~c~ w." ∷ [])
 addresses = refl
 
--- names and numbers are references where `;` follows
+-- names and numbers are references if `;` follows
 references :
     map begins_reference (texts ("amp;" ∷ "b2;" ∷ "#42;" ∷ "#x2a;" ∷ "#XF;" ∷ []))
     ≡ true ∷ true ∷ true ∷ true ∷ true ∷ []
@@ -223,11 +226,11 @@ read_back = refl
 
 -- ---- lines of an input
 
--- a carriage return and a line feed are one break, in the other order they are two
+-- a carriage return with a line feed after it is one break, and in the other order they are two
 breaks : line_breaks_of (0x61 ∷ 0x0D ∷ 0x0A ∷ 0x62 ∷ 0x0D ∷ 0x63 ∷ 0x0A ∷ 0x0D ∷ 0x64 ∷ []) ≡ 4
 breaks = refl
 
--- between a carriage return and a line feed a line has ended, and lines above count
+-- a line has ended between a carriage return and a line feed, and the lines above are counted
 lines : map (λ (at : ℕ). line_number 4 (take at (0x0D ∷ 0x0A ∷ 0x61 ∷ []))) (0 ∷ 1 ∷ 2 ∷ 3 ∷ []) ≡ 5 ∷ 6 ∷ 6 ∷ 6 ∷ []
 lines = refl
 
@@ -236,7 +239,7 @@ lines = refl
 by_number : map (positions_of_word [] 4) (texts ("4" ∷ "1-2" ∷ "3-3" ∷ "002" ∷ [])) ≡ Ok (3 ∷ []) ∷ Ok (0 ∷ 1 ∷ []) ∷ Ok (2 ∷ []) ∷ Ok (1 ∷ []) ∷ []
 by_number = refl
 
--- a number is no name, and a name is no range
+-- a number isn't a name, and a name isn't a range
 by_number_first : positions_of_word (texts ("2" ∷ "b" ∷ [])) 2 (codes "2") ≡ Ok (1 ∷ [])
 by_number_first = refl
 
@@ -249,7 +252,7 @@ by_name = refl
 no_such_name : position_named (codes "c") (texts ("a" ∷ "b" ∷ [])) ≡ None
 no_such_name = refl
 
--- a message names the word as it is, and says how many columns there are
+-- a message quotes the word, and has the number of columns
 missing_columns :
     map (positions_of_word [] 3) (texts ("3-1" ∷ "0" ∷ "0-1" ∷ "09" ∷ "2-9" ∷ "a" ∷ "" ∷ []))
     ≡ map (λ word. Err (missing word (codes "there are 3 columns"))) (texts ("3-1" ∷ "0" ∷ "0-1" ∷ "09" ∷ "2-9" ∷ "a" ∷ "" ∷ []))
@@ -259,7 +262,7 @@ missing_columns = refl
 columns_before_right : columns_with [] (Err (missing (codes "a") [])) (Err none_left) (Err (missing (codes "c") [])) ≡ Err (missing (codes "a") [])
 columns_before_right = refl
 
--- the first column at the right that is at the left too; it has a name, or else a number
+-- the first right-aligned column that is left-aligned too, by its name, or else by its number
 at_two_sides_named : columns_with (texts ("a" ∷ "b" ∷ [])) (Ok (0 ∷ 1 ∷ [])) (Ok (1 ∷ 0 ∷ [])) (Ok (0 ∷ 1 ∷ [])) ≡ Err (two_sided (codes "b"))
 unfolding field_at
 at_two_sides_named = refl
@@ -271,12 +274,13 @@ at_two_sides_numbered = refl
 abbrev rows : List (List Text)
 rows = texts ("x" ∷ "1" ∷ "2" ∷ "-" ∷ "0042" ∷ []) ∷ texts ("3" ∷ "n/a" ∷ []) ∷ texts ("3" ∷ "" ∷ "2" ∷ "" ∷ "42" ∷ []) ∷ []
 
--- a column with a word, one with neutral fields, one with a missing field, one of neutral fields alone, one with a name, and one that has no field
+-- a column with a word, one with neutral fields, one with a missing field, one of neutral fields alone, one with a
+-- name, and one without a field
 alignments : map (λ p. alignment_for [] [] (is_number_kind (column_kind (column_fields rows p))) p) (0 ∷ 1 ∷ 2 ∷ 3 ∷ 4 ∷ 5 ∷ []) ≡ None ∷ Some Right ∷ Some Right ∷ None ∷ None ∷ None ∷ []
 unfolding field_at chars lib.Utf8.encode ucd_category is_neutral is_number
 alignments = refl
 
--- where sequences are kept, a number in colour is one
+-- if sequences are kept, a coloured number is a number
 abbrev in_red : Text
 in_red = 0x1B ∷ codes "[31m12" ++ 0x1B ∷ codes "[0m"
 
@@ -284,7 +288,7 @@ coloured_alignments : map (λ keeps. alignment_for [] [] (is_number_kind (column
 unfolding field_at chars lib.Utf8.encode ucd_category is_neutral is_number
 coloured_alignments = refl
 
--- the right wins over the left, and both over numbers
+-- right overrides left, and both override numbers
 chosen_alignments : map (λ p. alignment_for (0 ∷ []) (0 ∷ 1 ∷ []) (is_number_kind (column_kind (column_fields rows p))) p) (0 ∷ 1 ∷ []) ≡ Some Right ∷ Some Left ∷ []
 unfolding field_at chars lib.Utf8.encode ucd_category is_neutral is_number
 chosen_alignments = refl
@@ -299,31 +303,31 @@ note_on_one : note_for Record false (Some 1) None ≡ codes "first 1 record; the
 unfolding digits
 note_on_one = refl
 
--- rows that a caller gives aren't called records
+-- rows of a caller aren't called records
 notes_on_rows : note_for Row false (Some 1) None ∷ note_for Row false (Some 0) (Some 2) ∷ [] ≡ codes "first 1 row; there are more\n" ∷ codes "0 of 2 rows\n" ∷ []
 unfolding digits
 notes_on_rows = refl
 
--- in Markdown below an empty line
+-- in Markdown the note is below an empty line
 note_in_markdown : note_for Record true (Some 2) (Some 3) ≡ codes "\n2 of 3 records\n"
 unfolding digits
 note_in_markdown = refl
 
--- the line below a header for Markdown: the second column stands at the right
+-- the line below a header for Markdown: the second column is right-aligned
 rule : rule_line (None ∷ Some Right ∷ []) (3 ∷ 1 ∷ []) ≡ codes "|-----|--:|"
 rule = refl
 
--- the line above a record
+-- the heading of a record
 third_record : record_line Record 3 (Some 12) ≡ codes "record 3 of 12\n"
 unfolding digits
 third_record = refl
 
--- and if the count isn't known
+-- the same with an unknown count
 third_uncounted : record_line Record 3 None ≡ codes "record 3\n"
 unfolding digits
 third_uncounted = refl
 
--- of a row
+-- the heading of a row
 third_row : record_line Row 3 (Some 12) ≡ codes "row 3 of 12\n"
 unfolding digits
 third_row = refl
@@ -342,7 +346,8 @@ none_listed = refl
 bits : map (number_for 16) (texts ("65535" ∷ "65536" ∷ "" ∷ "1x" ∷ [])) ≡ Some 65535 ∷ None ∷ None ∷ None ∷ []
 bits = refl
 
--- values after a space, after `=`, and behind a letter, the last of two; a flag that is used, one that isn't, and options without a value
+-- values after a space, after `=`, and after a letter, the last of two; a flag that is set, one that isn't, and options
+-- without a value
 abbrev found : String → Option Text
 found id = first_of (codes id) (matches_of (with_rules wordless (map (λ known. known.0) csvtable_rules)) (texts ("csvtable" ∷ "-w" ∷ "9" ∷ "-w" ∷ "60" ∷ "--limit=2" ∷ "-nr3" ∷ "a.csv" ∷ [])))
 
@@ -355,13 +360,13 @@ files = refl
 
 -- ---- what words ask for
 
--- a number from 1 to 65535, else 80
+-- a number from 1 to 65535, or else 80
 terminal_widths :
     map terminal_width (None ∷ map Some (texts ("40" ∷ "0" ∷ "1" ∷ "65535" ∷ "65536" ∷ "+40" ∷ "" ∷ "wide" ∷ [])))
     ≡ 80 ∷ 40 ∷ 80 ∷ 1 ∷ 65535 ∷ 80 ∷ 80 ∷ 80 ∷ 80 ∷ []
 terminal_widths = refl
 
--- in a terminal: nothing asked for, 0, a width
+-- in a terminal: no width, a width of 0, and another one
 abbrev terminal : OutputContext
 terminal = record { is_terminal = true; columns = None; no_color = None }
 
@@ -377,7 +382,7 @@ colors = refl
 bold : map (λ (word : Option Text). is_bold_for word terminal) (None ∷ Some (codes "auto") ∷ Some (codes "never") ∷ Some (codes "always") ∷ []) ≡ true ∷ true ∷ false ∷ true ∷ []
 bold = refl
 
--- names in any case of letters, and no name
+-- names in letters of either case, and no name
 styles : map (λ (name : Option Text). style_for name) (None ∷ map Some (texts ("Rounded" ∷ "BOX" ∷ "grid" ∷ "plain" ∷ "utf8_full" ∷ []))) ≡ with_rounded_corners utf8_full ∷ with_rounded_corners utf8_full ∷ utf8_full ∷ with_rounded_corners utf8_full ∷ nothing ∷ utf8_full ∷ []
 styles = refl
 
@@ -421,11 +426,11 @@ line_break_is_read same = let is : 0x0A ∷ [] ≡ codes "<br>" = same in cc is
 abbrev placed_columns_at : List ℕ → List ColumnPlan
 placed_columns_at positions = map (λ (p : ℕ). record { position = p; alignment = None; points = None; is_nowrap = false }) positions
 
--- of three columns a record of one field reaches the first, or those up to where that one stands
+-- a record of one field reaches the first of three columns, or the columns up to that of its field
 reaches : map (λ positions. length (columns_within (texts ("1" ∷ [])) (placed_columns_at positions))) ((0 ∷ 1 ∷ 2 ∷ []) ∷ (2 ∷ 0 ∷ 1 ∷ []) ∷ (2 ∷ 1 ∷ []) ∷ []) ≡ 1 ∷ 2 ∷ 0 ∷ []
 reaches = refl
 
--- and it holds one of them
+-- it has the field of one of them
 holds : map (λ positions. length (held (texts ("1" ∷ [])) (placed_columns_at positions))) ((0 ∷ 1 ∷ 2 ∷ []) ∷ (2 ∷ 0 ∷ 1 ∷ []) ∷ (2 ∷ 1 ∷ []) ∷ []) ≡ 1 ∷ 1 ∷ 0 ∷ []
 holds = refl
 

@@ -1,4 +1,4 @@
--- Lines that no new table of a header and rows has.
+-- Lines that aren't those of a new table of a header and rows.
 use Rattle.std.proofs.Common.{false, append-nil, ◌∙◌, ap, ◌≡◌, ◌≤◌, ℕ, List, [], ◌∷◌, ◌++◌, Option, Some, None, codes, length, refl, arith, slice_index_or}
 use Rattle.std.specs.List.{All, AllZip, join_by}
 use Rattle.std.proofs.lemmas.List.Elements.{All-cons, All-from_recursion, All-nil}
@@ -50,7 +50,7 @@ short =
 one_cell : HaveCells 1 (header ∷ [])
 one_cell = All-cons (λ (row : RowValue). length row.cells ≤ 1) header [] (omega arith) (All-nil (λ (row : RowValue). length row.cells ≤ 1))
 
--- lines of two widths, where characters are narrow, and where texts are short
+-- lines of two widths, with narrow characters, and with short texts
 -- false: promises::laws::tables_of_rows_keep_the_promises
 uneven : ¬ (Keeps Dynamic (Some 9) (codes "ab" ∷ codes "a" ∷ []))
 uneven keeps = shorter_line (keeps.straight narrow)
@@ -69,11 +69,11 @@ wider keeps = let few = keeps.within 5 1 refl refl narrow one_cell (omega arith)
 unfilled : ¬ (Keeps DynamicFullWidth (Some 7) (codes " ab   " ∷ []))
 unfilled keeps = let all = keeps.over 7 1 refl refl narrow one_cell (omega arith) (omega arith) 0 [] (omega arith) in omega (arith, all, six)
 
--- no texts
+-- lines without the texts
 no_texts : ¬ (KeepsRows utf8_full Disabled None (promises.row_of "day" "text") (promises.row_of "3 mai" "oats" ∷ []) [])
 no_texts keeps = no_lines_lose_texts keeps.all_texts
 
--- a text that is torn
+-- a torn text
 torn : ¬ (Keeps Disabled None (codes " a b " ∷ []))
 torn keeps = let (width, is) = keeps.whole_texts refl short in by_rows width is.rows is.are_rows is.is_header.0 is.is_header.1 (is.drawn ∙ ap (λ (lines : List Text). lines ++ (join_by (λ (block : List Text). block) [] is.rows ++ [])) is.is_header.2)
   where

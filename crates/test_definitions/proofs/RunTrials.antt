@@ -1,4 +1,4 @@
--- What `draw` may return, and what it may not.
+-- Results of `draw` that are possible, and some that aren't.
 use Rattle.std.proofs.Common.{◌≡◌, inl, inr, ◌<◌, ◌≤◌, ◌^◌, ℕ, zero, suc, true, false, Err, List, Some, None, [], ◌∷◌, ap, arith, codes, length, map, refl, replicate}
 use Rattle.std.proofs.Math.Pow.{pow_mono}
 use Rattle.std.specs.Fmt.{digits}
@@ -24,11 +24,11 @@ use Rattle.devices.specs.Outcome.{IsByBeginning, NoneIsEnough, RunFacts, Whole, 
 abbrev facts : RunFacts
 facts = record { input = 0xFF ∷ []; end_was_read = true; written = []; read_failed = false; write_failed = false }
 
--- it is to be UTF-8, under every limit
+-- it is read as UTF-8, with any limit
 abbrev in_utf8 : Options → Options
 in_utf8 options = record options { input = record options.input { skip = 0; encoding = Some Utf8 } }
 
--- so it doesn't lack memory alone
+-- so the result isn't a lack of memory
 out_of_memory : (options : Options) → ¬ (IsAfter {T = ℕ} (in_utf8 options) (Err OutOfMemory) facts)
 unfolding chars is_utf8
 out_of_memory options (inl after) = by_time after.says
@@ -41,7 +41,7 @@ out_of_memory options (inl after) = by_time after.says
         cc is
 out_of_memory options (inr part) = let unread : true ≡ false = part.unread in cc unread
 
--- a beginning of a longer one may, of which the rest wasn't read
+-- a beginning of a longer input may have this result, if its rest wasn't read
 abbrev limited : Options → Options
 limited options = record options { counts_all = false; selection = record options.selection { limit = Some 3 } }
 
@@ -62,17 +62,17 @@ out_of_memory_by_beginning options =
 asked : map asked_at (0 ∷ 1 ∷ 2 ∷ []) ≡ 65536 ∷ 131072 ∷ 262144 ∷ []
 asked = refl
 
--- it isn't asked at 65536 bytes and twice as many more
+-- no beginning has three times 65536 bytes
 three_blocks : (n : ℕ) → ¬ (asked_at n ≡ 196608)
 three_blocks zero is = absurd (omega (arith, is))
 three_blocks (suc zero) is = absurd (omega (arith, is))
 three_blocks (suc (suc n)) is = absurd (let more : 2 ^ 2 ≤ 2 ^ suc (suc n) = pow_mono {i = 2} {j = suc (suc n)} (omega arith) in omega (arith, is, more))
 
--- nor of an input that is shorter, so no beginning of it is drawn, an empty one neither
+-- no beginning of a shorter input is drawn, not even of an empty one
 short : (options : Options) (Says : RunFacts → Type 0) → ¬ (IsByBeginning (IsNotEnough options) Says facts)
 short options Says part = absurd (omega (arith, asked_some part.n, part.is_asked.reaches))
 
--- where the first beginning is enough, neither a longer one is drawn nor the whole input
+-- if the first beginning is enough, neither a longer one is drawn nor the whole input
 later : (options : Options) (facts : RunFacts) (records : List (List Text)) → AreEnough options (whole_lines (asked_front 0 facts.input)) records → (Says : RunFacts → Type 0) → (part : IsByBeginning (IsNotEnough options) Says facts) → part.n ≡ 0
 later options facts records enough Says part = by_turn part.n part.is_asked.none_before
   where
@@ -86,7 +86,7 @@ whole options input records long enough none = none 0 long records enough
 lines : map whole_lines (codes "a\nb\nc" ∷ codes "a\n" ∷ codes "ab" ∷ codes "\n\n\r" ∷ []) ≡ codes "a\nb\n" ∷ codes "a\n" ∷ [] ∷ codes "\n\n" ∷ []
 lines = refl
 
--- a count that is known isn't drawn as one that isn't
+-- a known count isn't drawn as an unknown one
 two_notes : ¬ (note_for Record false (Some 3) (Some 12) ≡ note_for Record false (Some 3) None)
 unfolding digits
 two_notes is = let differ : 16 ≡ 32 = ap length is in absurd (omega (arith, differ))

@@ -14,7 +14,7 @@ use Rattle.csv_tables.specs.Styled.{dressed_table, placed}
 use Rattle.csv_tables.specs.declared.options.ColumnPlan.{ColumnPlan}
 use Rattle.csv_tables.specs.declared.selection.Noun.TheVariants.{Record}
 
--- a red cell with a line below its text, one in the middle, and one that has nothing of its own
+-- a red, underlined cell, a centred one, and one without settings
 abbrev red : CellSettingsValue
 red = record { alignment = None; foreground = Some Red; background = Some Blue; attributes = Underlined ∷ [] }
 
@@ -24,7 +24,7 @@ middle = record { alignment = Some Center; foreground = None; background = None;
 abbrev unset : CellSettingsValue
 unset = record { alignment = None; foreground = None; background = None; attributes = [] }
 
--- attributes come after those that a cell has, and colours in place of its own
+-- attributes come after the cell's own, and colours replace its own
 abbrev bold : CellValue
 bold = record (plain_cell (codes "name")) { alignment = Some Right; foreground = Some Blue; attributes = Bold ∷ [] }
 
@@ -49,7 +49,7 @@ places = refl
 abbrev content : SelectedValue
 content = record { names = None; rows = []; columns = column 1 ∷ column 0 ∷ []; count = None; is_numbered = true; noun = Record }
 
--- the header has a red name, the first record has nothing of its own, and the second one has at most one line
+-- the name in the header is red, the first record has no settings, and the second one has at most one line
 abbrev settings : List RowSettingsValue
 settings =
     record { max_height = Some 2; cells = red ∷ [] }
@@ -73,7 +73,7 @@ made = dressed_table content settings table
 header : option_map (λ (own : RowValue). map (λ (cell : CellValue). cell.foreground) own.cells) made.header ≡ Some (None ∷ None ∷ Some Red ∷ [])
 header = refl
 
--- the header has no greatest height, and 0 counts as 1
+-- the header has no greatest height, and a height of 0 counts as 1
 header_height : option_map (λ (own : RowValue). own.max_height) made.header ≡ Some None
 header_height = refl
 
@@ -86,7 +86,7 @@ colours = refl
 sides : map (λ (own : RowValue). map (λ (cell : CellValue). cell.alignment) own.cells) made.rows ≡ (None ∷ None ∷ None ∷ []) ∷ (None ∷ None ∷ Some Center ∷ []) ∷ (None ∷ None ∷ []) ∷ []
 sides = refl
 
--- with settings of rows the table is styled anyway, without them it stays
+-- with settings of rows the table is always styled, and without them it is unchanged
 styled : made.enforce_styling ≡ true
 styled = refl
 

@@ -1,19 +1,19 @@
--- Texts whose fields stand between spaces, as other programs write them.
+-- Texts whose fields are separated by spaces, as other programs write them.
 use Rattle.std.proofs.Common.{◌≡◌, [], codes, refl}
 use Rattle.std.specs.Str.{chars}
 use Rattle.csv_records.specs.Spaces.{tabbed_text}
 
--- the header has a word more than any record, so its last name is both words
+-- the header has one word more than any record, so its last name is both words
 sizes : tabbed_text (codes "Filesystem  Size Mounted on\n/dev/sda1    20G /\ntmpfs       1.6G /run/user/0\n") ≡ codes "Filesystem\tSize\tMounted on\n/dev/sda1\t20G\t/\ntmpfs\t1.6G\t/run/user/0\n"
 unfolding chars
 sizes = refl
 
--- the last column takes the rest of a line, with its blanks; white space at a line's ends doesn't count
+-- the last column takes the rest of a line, with its spaces; white space at the ends of a line doesn't count
 processes : tabbed_text (codes "  PID COMMAND\r\n    1 sh  -c \"a b\"\tc \r\n\r\n   20 ps\r\n") ≡ codes "PID\tCOMMAND\n1\tsh  -c \"a b\" c\n20\tps\n"
 unfolding chars
 processes = refl
 
--- a line may have fewer fields; where some line fills it, a column stays
+-- a line may have fewer fields; a column stays if some line fills it
 mounts : tabbed_text (codes "NAME SIZE MOUNT\nsda   20G\n\nsda1  19G /\n") ≡ codes "NAME\tSIZE\tMOUNT\nsda\t20G\nsda1\t19G\t/\n"
 unfolding chars
 mounts = refl
@@ -23,12 +23,12 @@ header : tabbed_text (codes " a  b c\n \n") ≡ codes "a\tb\tc\n"
 unfolding chars
 header = refl
 
--- the first column has no name where the first line alone begins with a blank, and has a field less
+-- the first column has no name if only the first line begins with a space, and has one field less
 memory : tabbed_text (codes "      total  used\nMem:     15     4\nSwap:     2\n") ≡ codes "\ttotal\tused\nMem:\t15\t4\nSwap:\t2\n"
 unfolding chars
 memory = refl
 
--- a first line like `total 92` is left out, and a name stays
+-- a first line such as `total 92` is left out, and a name stays
 sizes_of_files : tabbed_text (codes "total 4.0K\n-rw 1 a b\ndrw 2 c\n") ≡ codes "-rw\t1\ta b\ndrw\t2\tc\n"
 unfolding chars
 sizes_of_files = refl
@@ -37,12 +37,12 @@ total_as_a_name : tabbed_text (codes "total used\n1 2\n") ≡ codes "total\tused
 unfolding chars
 total_as_a_name = refl
 
--- fields stand below names that three spaces part: names and fields have spaces, and a field is empty
+-- fields are below names that three spaces separate: names and fields have spaces, and a field is empty
 containers : tabbed_text (codes "ID X   PORTS    NAMES\na b             c\nd      80/tcp   e\tf\n") ≡ codes "ID X\tPORTS\tNAMES\na b\t\tc\nd\t80/tcp\te f\n"
 unfolding chars lib.Utf8.encode
 containers = refl
 
--- where one stands elsewhere, each space parts fields
+-- if a field is elsewhere, each run of spaces separates fields
 elsewhere : tabbed_text (codes "A B   C   D\n1 2   3    4\n") ≡ codes "A\tB\tC\tD\n1\t2\t3\t4\n"
 unfolding chars
 elsewhere = refl

@@ -1,4 +1,5 @@
--- Terminal columns of every script, computed: characters that add one column and some that don't, texts that add up, texts whose characters fit, and a table that is shown whole.
+-- Terminal columns of every script, computed: characters that add one terminal column and some that don't, texts that
+-- add up, texts whose characters fit, and a table that is shown whole.
 use Rattle.std.proofs.Common.{◌≡◌, ◌≤◌, ℕ, List, true, false, inl, inr, [], ◌∷◌, ◌++◌, Some, None, map, refl, sum_by, arith}
 use Rattle.std.specs.List.{All}
 use Rattle.std.specs.Prelude.{encode_utf8_all}
@@ -35,7 +36,7 @@ nothing_measures_nothing : measure [] ≡ 0
 unfolding wrapping
 nothing_measures_nothing = refl
 
--- so the number sign adds two columns there
+-- so the number sign adds two terminal columns there
 -- false: comfy_parts::laws::spaces_and_borders_add_one_column
 pub number_sign_adds_two : ¬ (AddsOneColumn 0x23)
 number_sign_adds_two adds =
@@ -54,7 +55,7 @@ with_selector_measures_two : measure (utf8 "#" ++ encode_utf8_all (0xFE0F ∷ []
 unfolding wrapping
 with_selector_measures_two = refl
 
--- nor does a variation selector stand apart
+-- a variation selector isn't apart either
 -- false: promises::laws::the_ellipsis_stands_apart
 pub selector_joins : ¬ (IsApart (encode_utf8_all (0xFE0F ∷ [])))
 selector_joins apart =
@@ -93,18 +94,18 @@ ideograph_needs_two : characters_fit 1 (utf8 "年") ≡ false
 unfolding wrapping
 ideograph_needs_two = refl
 
--- a family of three is as wide as each of them, and joiners take nothing
+-- a family of three is as wide as each of its members, and joiners take nothing
 family_fits_two : characters_fit 2 (encode_utf8_all (0x1F468 ∷ 0x200D ∷ 0x1F469 ∷ 0x200D ∷ 0x1F467 ∷ [])) ≡ true
 unfolding wrapping
 family_fits_two = refl
 
--- U+17D8, the one character that needs three
+-- U+17D8, the only character that needs three terminal columns
 -- false: comfy_parts::laws::one_character_takes_three_columns
 khmer_sign_needs_three : map (λ w. characters_fit w (encode_utf8_all (0x17D8 ∷ []))) (2 ∷ 3 ∷ []) ≡ false ∷ true ∷ []
 unfolding wrapping
 khmer_sign_needs_three = refl
 
--- what a text measures, and its clusters together
+-- the measure of a text, and the sum of its clusters' measures
 abbrev two_measures : List ℕ → List ℕ
 two_measures cs = measure (encode_utf8_all cs) ∷ sum_by measure (clusters (encode_utf8_all cs)) ∷ []
 
@@ -126,12 +127,12 @@ emoji_selector_behind : two_measures (0x231A ∷ 0x200D ∷ 0x231A ∷ 0xFE01 �
 unfolding wrapping
 emoji_selector_behind = refl
 
--- so no such text is one of characters that fit, however wide the column
+-- so the characters of such a text never fit, however wide the column is
 pairs_never_fit : map (characters_fit 9) (encode_utf8_all (0x2018 ∷ 0xFE0E ∷ 0xFE01 ∷ 0x5DC ∷ []) ∷ encode_utf8_all (0xFE01 ∷ 0xFE0F ∷ []) ∷ []) ≡ false ∷ false ∷ []
 unfolding wrapping
 pairs_never_fit = refl
 
--- a front of a cluster, and the cluster: the front is wider by two, and no front by more
+-- a prefix of a cluster, and the cluster: the prefix is wider by two, and no prefix by more
 front_of_a_cluster : two_measures (0x231A ∷ 0x200D ∷ 0x3030 ∷ []) ≡ 4 ∷ 4 ∷ []
 unfolding wrapping
 front_of_a_cluster = refl
@@ -140,12 +141,12 @@ whole_cluster : two_measures (0x231A ∷ 0x200D ∷ 0x3030 ∷ 0xFE0F ∷ []) �
 unfolding wrapping
 whole_cluster = refl
 
--- four columns, and two at most on each line
+-- four terminal columns, at most two on each line
 word_fits_by_characters : WordFits 2 (utf8 "年度")
 unfolding wrapping
 word_fits_by_characters = inr refl
 
--- so does a word of letters that join, in a column of one
+-- a word of letters that join fits a column of one terminal column
 joining_word_fits : WordFits 1 (encode_utf8_all (0x644 ∷ 0x627 ∷ 0x644 ∷ 0x627 ∷ []))
 unfolding wrapping
 joining_word_fits = inr refl
@@ -160,7 +161,7 @@ wide_character_in_a_column_of_one : map measure (lines_of_text 1 0x20 (utf8 "年
 unfolding wrapping
 wide_character_in_a_column_of_one = refl
 
--- the line takes the delimiter with its two columns, and room is looked for beside one
+-- the line takes the delimiter with its two terminal columns, though only one was reserved for it
 wide_delimiter_in_a_line : map measure (lines_of_text 3 0x5E74 (utf8 "a年b")) ≡ 4 ∷ []
 unfolding wrapping
 wide_delimiter_in_a_line = refl
@@ -173,7 +174,7 @@ its_clusters_measure_one : map measure (clusters quoted) ≡ 1 ∷ 1 ∷ []
 unfolding wrapping
 its_clusters_measure_one = refl
 
--- two clusters of one column each measure three together
+-- two clusters of one terminal column each measure three together
 its_head_measures_three : measure (head 2 quoted) ≡ 3
 unfolding wrapping
 its_head_measures_three = refl
@@ -211,7 +212,7 @@ row = plain_row (family ∷ letter ∷ [])
 abbrev table : TableValue
 table = with_row row (new_table utf8_full)
 
--- borders and paddings take seven columns, the texts four and one
+-- borders and paddings take seven terminal columns, and the texts four and one
 total_is_twelve : line_total table (widths_by_content table) ≡ 12
 unfolding wrapping
 total_is_twelve = refl

@@ -1,4 +1,4 @@
--- The modifiers of a style change nothing the second time.
+-- The modifiers of a style have no effect when they are applied again.
 use Rattle.std.proofs.Common.{refl}
 use Rattle.comfy_parts.specs.declared.style.table_style.TableStyle.{TableStyle}
 use Rattle.comfy_parts.specs.StyleModifiers.{RoundingTwiceIsOnce, SolidTwiceIsOnce}

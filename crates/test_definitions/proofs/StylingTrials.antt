@@ -20,7 +20,7 @@ use Rattle.comfy_table.specs.Drawing.{drawing}
 use Rattle.comfy_table.specs.Arrangement.{IsDrawingOf}
 use Rattle.comfy_parts.specs.declared.style.table.ContentArrangement.TheVariants.{Dynamic}
 
--- styling is enforced, though no terminal is there
+-- styling is enforced, without a terminal
 abbrev styled_table : Bool → TableValue
 styled_table text_only = record (new_table ascii_full) { no_tty = true; enforce_styling = true; style_text_only = text_only }
 
@@ -71,7 +71,7 @@ nothing_set = refl
 
 -- ---- sequences in cells
 
--- a line as it is measured and as it is written
+-- a line as it is measured, and as it is written
 abbrev as_line : String → String → CellLine
 as_line visible written = record { measured = codes visible; written = codes written }
 
@@ -79,17 +79,17 @@ over_two_lines : line_texts 10 0x20 (codes "hello\u{1b}[34m\u{1b}[2m123" ∷ cod
 unfolding wrapping
 over_two_lines = refl
 
--- `ESC[m` closes nothing, and so is resumed and closed itself
+-- `ESC[m` doesn't close sequences, so it is resumed and closed itself
 other_resets : line_texts 2 0x20 (codes "\u{1b}[1mab\u{1b}[mcd" ∷ []) ≡ as_line "ab" "\u{1b}[1mab\u{1b}[0m" ∷ as_line "cd" "\u{1b}[1m\u{1b}[mcd\u{1b}[0m" ∷ []
 unfolding wrapping
 other_resets = refl
 
--- a text line of sequences alone is an empty line, and they stay active
+-- a text line of sequences alone is an empty line, and the sequences stay open
 sequences_alone : line_texts 5 0x20 (codes "\u{1b}[1m" ∷ codes "a\u{1b}[0m" ∷ codes "\u{1b}[0m" ∷ []) ≡ as_line "" "" ∷ as_line "a" "\u{1b}[1ma\u{1b}[0m" ∷ as_line "" "" ∷ []
 unfolding wrapping
 sequences_alone = refl
 
--- an ESC that begins no sequence is visible, also where what is taken out would join to one
+-- an ESC that begins no sequence is visible, also if the text around a removed sequence would form one
 visible_escapes : line_texts 9 0x20 (codes "\u{1b}[\u{1b}[1m1mx\u{1b}" ∷ []) ≡ as_line "\u{1b}[1mx\u{1b}" "\u{1b}[\u{1b}[1m1mx\u{1b}\u{1b}[0m" ∷ []
 unfolding wrapping
 visible_escapes = refl
@@ -118,12 +118,12 @@ over_a_break : IsDrawingOf (record bold_letters { arrangement = Dynamic; set_wid
 unfolding wrapping
 over_a_break = (3 ∷ [], at_widths refl refl (by_steps (record { lower = []; level = Some 3; shrunk = [] }) refl (lit≤ tt, lit≤ tt, lit≤ tt, λ some. refl) refl refl), refl)
 
--- a cut line keeps no sequence
+-- a cut line keeps no sequences
 cut_without_sequences : drawing (record bold_letters { rows = record (plain_row (plain_cell (codes "\u{1b}[1mabcdef\u{1b}[0m") ∷ [])) { max_height = Some 1 } ∷ [] }) (3 ∷ []) ≡ texts ("+-----+" ∷ "| ab… |" ∷ "+-----+" ∷ [])
 unfolding wrapping
 cut_without_sequences = refl
 
--- one that its indicator brings is closed
+-- a sequence in its indicator is closed
 cut_and_closed : drawing (record bold_letters { rows = record (plain_row (plain_cell (codes "\u{1b}[1mabcdefghi\u{1b}[0m") ∷ [])) { max_height = Some 1 } ∷ []; indicator = codes "\u{1b}[2m" }) (6 ∷ []) ≡ texts ("+--------+" ∷ "| ab\u{1b}[2m\u{1b}[0m |" ∷ "+--------+" ∷ [])
 unfolding wrapping
 cut_and_closed = refl
@@ -140,12 +140,12 @@ inside_a_sequence_nothing_divides : line_texts 1 0x6D (codes "a\u{1b}[1mb" ∷ [
 unfolding wrapping
 inside_a_sequence_nothing_divides = refl
 
--- a cell's own colours stand round its line
+-- a cell's own colours surround its line
 round_the_line : drawing (record (custom_cell (record (plain_cell (codes "\u{1b}[1mx")) { foreground = Some Green })) { enforce_styling = true; style_text_only = true }) (2 ∷ []) ≡ texts ("+----+" ∷ "| \u{1b}[38;5;10m\u{1b}[1mx\u{1b}[0m\u{1b}[39m  |" ∷ "+----+" ∷ [])
 unfolding wrapping
 round_the_line = refl
 
--- each line begins where it is resumed: in its own text line, at its first visible byte
+-- each line begins at the place where it is resumed: in its own text line, at its first visible byte
 begins_in_its_text_line : map (λ (start : LineStart). start.at) (line_starts 2 0x20 (codes "\u{1b}[1mab\u{1b}[mcd" ∷ codes "e" ∷ [])) ≡ 0 ∷ 2 ∷ 0 ∷ []
 unfolding wrapping
 begins_in_its_text_line = refl

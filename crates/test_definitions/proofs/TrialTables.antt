@@ -1,4 +1,4 @@
--- What the trials build their tables from.
+-- Definitions from which trials build their tables.
 use Rattle.std.specs.Prelude.{◌≡◌, ◌==◌, ◌&&◌, ◌||◌, ◌++◌, ℕ, Bool, true, false, List, [], ◌∷◌, Option, Some, length, map, max, codes, encode_utf8_all}
 use Rattle.std.proofs.Common.{refl, ap, ◌∙◌}
 use Prim.Native.String.{String}
@@ -15,7 +15,7 @@ use Rattle.comfy_table.specs.Dynamic.{IsDynamicLayout, IsLevel, IsTakenInOrder, 
 use Rattle.comfy_table.specs.TableValue.{TableValue, column_content_width, new_table, shown_columns, with_header, with_rows}
 use Rattle.comfy_table.specs.Widths.{ColumnNeeds}
 
--- a text, written out
+-- the UTF-8 of a text
 abbrev pub utf8 : String → Text
 utf8 s = encode_utf8_all (codes s)
 
@@ -28,7 +28,7 @@ cells_of cells = map (λ (s : String). plain_cell (utf8 s)) cells
 abbrev pub row_of : List String → RowValue
 row_of cells = plain_row (cells_of cells)
 
--- whether `ab` stands in a text
+-- true if a text contains `ab`
 abbrev pub has_ab : Text → Bool
 has_ab [] = false
 has_ab (x ∷ []) = false
@@ -45,7 +45,7 @@ ab_inside (x ∷ y ∷ before) after =
     ap (λ b. ((x == 0x61) && (y == 0x62)) || b) (ab_inside (y ∷ before) after)
     ∙ either_way ((x == 0x61) && (y == 0x62))
 
--- where it doesn't, the text isn't made of it and others
+-- if a text doesn't contain `ab`, it isn't made of `ab` and other texts
 pub no_ab_inside : (text : Text) → has_ab text ≡ false → (before after : Text)
     → ¬ (text ≡ before ++ (0x61 ∷ 0x62 ∷ after))
 no_ab_inside text none before after made = cc (none, ap has_ab made, ab_inside before after)
@@ -106,12 +106,12 @@ with_indicator indicator table = record table { indicator = utf8 indicator }
 abbrev pub with_delimiter : ℕ → TableValue → TableValue
 with_delimiter delimiter table = record table { delimiter = Some delimiter }
 
--- widths of a table, each fact of them computed
+-- the widths of a table, with their facts computed
 pub at_widths : {table : TableValue} {widths : List ℕ} → length widths ≡ length table.columns
     → widths_at widths (hidden_columns table) ≡ map (λ (p : ℕ × ColumnValue). max 1 (column_content_width table p.0)) (hidden_columns table) → AreShownWidths table (widths_at widths (shown_columns table)) → IsArranged table widths
 at_widths one hidden visible = record { one_for_each = one; hidden_widths = hidden; shown_widths = visible }
 
--- those of the shown columns, by the steps of a dynamic arrangement
+-- the widths of the shown columns, by the steps of a dynamic arrangement
 pub by_steps : {room : ℕ} {columns : List ColumnNeeds} {full : Bool} {widths : List ℕ} (steps : Steps) → IsTakenInOrder (undecided room columns) (lower_offer (content_room room columns) (undecided room columns)) steps.lower
     → IsLevel (room_of_others room columns steps.lower) (others room columns steps.lower) steps.level
     → IsTakenInOrder (unsettled room columns steps) (shrunk_offer (room_of_unsettled room columns steps) (unsettled room columns steps)) steps.shrunk → widths ≡ widened room columns full steps → IsDynamicLayout room columns full widths

@@ -1,4 +1,4 @@
--- Cells and rows of small values, and values in their order.
+-- Cells and rows of small values, and the order of values.
 use Rattle.std.proofs.Common.{◌≡◌, [], ◌∷◌, Some, true, false, refl}
 use Rattle.std.specs.Prelude.{codes}
 use Rattle.std.specs.Fmt.{digits}
@@ -54,11 +54,11 @@ greater_first = refl
 twice_the_same : ascends attribute_cmp (attribute.Bold ∷ attribute.Bold ∷ []) ≡ false
 twice_the_same = refl
 
--- fewer than two do
+-- lists of fewer than two values ascend
 one_ascends : ascends attribute_cmp (attribute.Dim ∷ []) ≡ true
 one_ascends = refl
 
--- colours of parts ascend by the first part in which they differ
+-- RGB colours ascend by the first part in which they differ
 by_the_second_part : ascends color_cmp (color.Rgb 1 2 9 ∷ color.Rgb 1 3 0 ∷ []) ≡ true
 by_the_second_part = refl
 

@@ -19,7 +19,7 @@ use Rattle.comfy_table.specs.Drawing.{infos_of}
 absurd_below : {A : Type 0} → 0 < 0 → A
 absurd_below below = absurd (omega arith)
 
--- standard output is a terminal of 12 places, standard error is none
+-- standard output is a terminal of 12 terminal columns, and standard error isn't one
 abbrev on_terminal : TableValue
 on_terminal = record (new_table ascii_full) { terminal = record { stdout_is_tty = true; stderr_is_tty = false; width = Some 12 } }
 
@@ -31,7 +31,7 @@ seven_over_three = refl
 
 -- ---- without a known width, or under `Disabled`
 
--- an absolute width less the paddings, and a text of delimiters alone: no content line
+-- an absolute width without the paddings, and a text of delimiters alone: no content line
 five_spaces : IsDrawingOf (with_constraints (Some (Absolute (Fixed 5)) ∷ []) (rows_of ascii_full (("     " ∷ []) ∷ []))) (texts ("+-----+" ∷ "+-----+" ∷ []))
 unfolding wrapping
 five_spaces = (3 ∷ [], at_widths refl refl refl, refl)
@@ -45,7 +45,7 @@ boundary_below_content : IsDrawingOf (with_constraints (Some (UpperBoundary (Fix
 unfolding wrapping
 boundary_below_content = (2 ∷ [], at_widths refl refl refl, refl)
 
--- half of 20, less the paddings
+-- half of 20, without the paddings
 half_of_the_width : IsDrawingOf (with_constraints (Some (Absolute (Percentage 50)) ∷ []) (arranged Disabled 22 (rows_of ascii_full (("a" ∷ []) ∷ [])))) (texts ("+----------+" ∷ "| a        |" ∷ "+----------+" ∷ []))
 unfolding wrapping
 half_of_the_width = (8 ∷ [], at_widths refl refl refl, refl)
@@ -70,7 +70,7 @@ contents_with_empty_cells : max_content_widths (table_of ascii_full ("thr" ∷ "
 unfolding wrapping
 contents_with_empty_cells = refl
 
--- a row without the cell has none, and so has a missing header
+-- a row without the cell has none, and neither has a missing header
 missing_cells_by_row : map is_some (cells_with_header (table_of ascii_full ("A" ∷ "B" ∷ []) (("First" ∷ "Second" ∷ []) ∷ ("Third" ∷ []) ∷ ("Fourth" ∷ "Fifth" ∷ []) ∷ [])) 1) ≡ true ∷ true ∷ false ∷ true ∷ []
 missing_cells_by_row = refl
 
@@ -81,7 +81,7 @@ terminal_facts : (is_tty on_terminal ≡ true) × (table_width on_terminal ≡ S
     × (should_style (record on_error { enforce_styling = true }) ≡ true) × (table_width (record on_error { set_width = Some 5 }) ≡ Some 5)
 terminal_facts = (refl, refl, refl, refl, refl, refl, refl, refl)
 
--- the padding never takes the last place
+-- paddings never take the last terminal column
 less_paddings : (without_padding 2 8 ≡ 6) × (without_padding 131070 10 ≡ 1)
 less_paddings = (refl, refl)
 
@@ -92,7 +92,7 @@ borders = (refl, refl)
 percentages : (resolved_width (arranged Disabled 22 (new_table ascii_full)) 1 (Percentage 150) ≡ Some 20) × (resolved_width (new_table ascii_full) 1 (Percentage 150) ≡ None)
 percentages = (refl, refl)
 
--- a header of fewer cells takes no column away
+-- a header of fewer cells removes no column
 columns_only_grow : length (with_header (row_of ("a" ∷ "b" ∷ [])) (with_header (row_of ("a" ∷ "b" ∷ "c" ∷ "d" ∷ [])) (with_header (row_of ("a" ∷ "b" ∷ "c" ∷ [])) (new_table ascii_full)))).columns ≡ 4
 columns_only_grow = refl
 
@@ -131,7 +131,7 @@ three_even_columns : IsDrawingOf
 unfolding wrapping
 three_even_columns = (10 ∷ 10 ∷ 10 ∷ [], at_widths refl refl (by_steps (record { lower = []; level = Some 10; shrunk = [] }) refl (lit≤ tt, lit≤ tt, lit≤ tt, λ some. refl) refl refl), refl)
 
--- at 10 the first column's longest line is 7, and the others claim 23
+-- at 10 the first column's longest line is 7, and the others take 23
 first_column_shrinks : IsDrawingOf
     (with_alignments (Left ∷ Left ∷ Right ∷ []) (arranged Dynamic 40 (with_row (row_of ("This is another text" ∷ "Now\nadd some\nmulti line stuff" ∷ "This is awesome" ∷ [])) (with_row (plain_row (aligned_cell Center "Center aligned" ∷ cells_of ("This is another text" ∷ "This is the third text" ∷ []))) (with_header (row_of ("Header1" ∷ "Header2" ∷ "Header3" ∷ [])) (new_table rounded_utf8)))))) (texts
     ("╭─────────┬──────────────┬─────────────╮"
@@ -200,7 +200,7 @@ absolute_widths_and_cuts : IsDrawingOf
 unfolding wrapping
 absolute_widths_and_cuts = (14 ∷ 6 ∷ 5 ∷ [], at_widths refl refl (by_steps (record { lower = []; level = Some 14; shrunk = [] }) refl (lit≤ tt, lit≤ tt, lit≤ tt, λ some. refl) refl refl), refl)
 
--- with an indicator of three columns
+-- the same with an indicator of three terminal columns
 cuts_with_three_points : IsDrawingOf
     (with_indicator "..." (arranged Dynamic 35 (with_constraints (None ∷ Some (Absolute (Fixed 8)) ∷ Some (Absolute (Fixed 7)) ∷ []) (with_heights 4 (table_of ascii_full ("Header1" ∷ "Header2" ∷ "Head" ∷ []) (("This is a very long line with a lot of text" ∷ "This is anotherverylongtextwithlongwords text" ∷ "smol" ∷ []) ∷ ("Now let's\nadd a really long line in the middle of the cell \n and add more multi line stuff" ∷ "This is another text" ∷ "smol" ∷ []) ∷ [])))))) (texts
     ("+----------------+--------+-------+"
@@ -238,7 +238,7 @@ indicator_wider_than_the_column : IsDrawingOf
 unfolding wrapping
 indicator_wider_than_the_column = (1 ∷ 19 ∷ [], at_widths refl refl (by_steps (record { lower = []; level = Some 22; shrunk = [] }) refl (lit≤ tt, lit≤ tt, lit≤ tt, λ none. absurd_below none) refl refl), refl)
 
--- with no room each column has one place
+-- without room each column has one terminal column
 no_room : IsDrawingOf
     (arranged Dynamic 0 (rows_of ascii_full (("ab" ∷ "cd" ∷ []) ∷ []))) (texts
     ("+---+---+"
@@ -248,7 +248,7 @@ no_room : IsDrawingOf
 unfolding wrapping
 no_room = (1 ∷ 1 ∷ [], at_widths refl refl (by_steps (record { lower = []; level = None; shrunk = [] }) refl (lit< tt) refl refl), refl)
 
--- a column without a cell is stored as 1 and takes 1
+-- a column without a cell has the width 1
 empty_columns_take_a_place : IsDrawingOf
     (arranged DynamicFullWidth 13 (with_header (row_of ("x" ∷ [])) (with_header (row_of ("a" ∷ "b" ∷ "c" ∷ [])) (new_table ascii_full)))) (texts
     ("+---+---+---+"
@@ -258,7 +258,7 @@ empty_columns_take_a_place : IsDrawingOf
 unfolding wrapping
 empty_columns_take_a_place = (1 ∷ 1 ∷ 1 ∷ [], at_widths refl refl (by_steps (record { lower = []; level = Some 1; shrunk = [] }) refl (lit≤ tt, lit≤ tt, lit≤ tt, λ none. absurd_below none) refl refl), refl)
 
--- three fit with 1 each, 7 are spread as 3, 2, 2
+-- three columns fit with 1 each, and 7 are spread as 3, 2, 2
 full_width_adds_the_rest : IsDrawingOf
     (arranged DynamicFullWidth 20 (table_of ascii_full ("a" ∷ "b" ∷ "c" ∷ []) (("1" ∷ "2" ∷ "3" ∷ []) ∷ []))) (texts
     ("+------+-----+-----+"
@@ -304,7 +304,7 @@ wide_characters : IsDrawingOf
 unfolding wrapping
 wide_characters = (4 ∷ [], at_widths refl refl (by_steps (record { lower = []; level = Some 4; shrunk = [] }) refl (lit≤ tt, lit≤ tt, lit≤ tt, λ some. refl) refl refl), refl)
 
--- the content line is one place wider than the frame
+-- the content line is one terminal column wider than the frame
 wide_character_in_one_place : IsDrawingOf
     (arranged Dynamic 0 (rows_of ascii_full (("✅" ∷ []) ∷ []))) (texts
     ("+---+"
@@ -321,7 +321,7 @@ full_width_widens_early_columns : IsDrawingOf
 unfolding wrapping
 full_width_widens_early_columns = (8 ∷ [], at_widths refl refl (by_steps (record { lower = []; level = Some 1; shrunk = [] }) refl (lit≤ tt, lit≤ tt, lit≤ tt, λ none. absurd_below none) refl refl), refl)
 
--- the average is 8, the boundary gets 10 less the paddings
+-- the average is 8, and the lower boundary gets 10 without the paddings
 lower_boundary_above_the_average : IsDrawingOf
     (arranged Dynamic 24 (with_constraints (Some (LowerBoundary (Fixed 10)) ∷ []) (rows_of ascii_full (("aaaaaaaaaaaaaaaaaaaa" ∷ "b" ∷ []) ∷ [])))) (texts
     ("+----------+---+"
@@ -332,7 +332,7 @@ lower_boundary_above_the_average : IsDrawingOf
 unfolding wrapping
 lower_boundary_above_the_average = (8 ∷ 1 ∷ [], at_widths refl refl (by_steps (record { lower = (0, 8) ∷ []; level = Some 9; shrunk = [] }) (refl, refl) (lit≤ tt, lit≤ tt, lit≤ tt, λ none. absurd_below none) refl refl), refl)
 
--- the average is 26, so the boundary is not taken
+-- the average is 26, so the lower boundary isn't taken
 lower_boundary_below_the_average : IsDrawingOf
     (arranged Dynamic 60 (with_constraints (Some (LowerBoundary (Fixed 10)) ∷ []) (rows_of ascii_full (("aaaaaaaaaaaaaaaaaaaa" ∷ "b" ∷ []) ∷ [])))) (texts
     ("+----------------------+---+"
@@ -341,7 +341,7 @@ lower_boundary_below_the_average : IsDrawingOf
 unfolding wrapping
 lower_boundary_below_the_average = (20 ∷ 1 ∷ [], at_widths refl refl (by_steps (record { lower = []; level = Some 26; shrunk = [] }) refl (lit≤ tt, lit≤ tt, lit≤ tt, λ none. absurd_below none) refl refl), refl)
 
--- the average is 5, the boundary allows 4, and 6 are left
+-- the average is 5, the upper boundary allows 4, and 6 are left
 upper_boundary_below_the_average : IsDrawingOf
     (arranged Dynamic 17 (with_constraints (Some (UpperBoundary (Fixed 6)) ∷ []) (rows_of ascii_full (("aaaaaaaaaa" ∷ "bbbbbbbbbb" ∷ []) ∷ [])))) (texts
     ("+------+--------+"
@@ -378,7 +378,7 @@ unfolding wrapping
 third_column_shrinks_at_full_width =
     at_widths refl refl (by_steps (record { lower = []; level = Some 21; shrunk = (2, 17) ∷ [] }) refl (lit≤ tt, lit≤ tt, lit≤ tt, λ some. refl) (refl, refl) refl)
 
--- at 10 the first column shrinks to 7; the second then has 13, where its text fits
+-- at 10 the first column shrinks to 7; the second then has 13, and its text fits
 one_shrinks_and_one_does_not : IsDrawingOf
     (arranged Dynamic 27 (rows_of ascii_full (("aaaaaaa bbbbb" ∷ "aaaaaaa bbbbb" ∷ []) ∷ []))) (texts
     ("+---------+---------------+"
@@ -455,7 +455,7 @@ cut_without_paddings : IsDrawingOf
 unfolding wrapping
 cut_without_paddings = (1 ∷ 2 ∷ [], at_widths refl refl refl, refl)
 
--- the fit test counts one place for the delimiter
+-- the test for room counts one terminal column for the delimiter
 wide_delimiter_is_one_place_wider : IsDrawingOf
     (with_delimiter 0x5E74 (with_constraints (Some (Absolute (Fixed 7)) ∷ []) (rows_of ascii_full (("ab年cd" ∷ []) ∷ [])))) (texts
     ("+-------+"
@@ -464,7 +464,7 @@ wide_delimiter_is_one_place_wider : IsDrawingOf
 unfolding wrapping
 wide_delimiter_is_one_place_wider = (5 ∷ [], at_widths refl refl refl, refl)
 
--- the position in the list decides, and no label
+-- the position in the list counts, and no label
 swapped_columns : IsDrawingOf
     (record (rows_of ascii_full (("ab" ∷ "cd" ∷ []) ∷ [])) { columns = new_column 7 ∷ record (new_column 7) { padding = (0, 0) } ∷ [] }) (texts
     ("+----+--+"
@@ -473,7 +473,7 @@ swapped_columns : IsDrawingOf
 unfolding wrapping
 swapped_columns = (2 ∷ 2 ∷ [], at_widths refl refl refl, refl)
 
--- a cell that no column knows is left out
+-- a cell without a column is left out
 cells_past_the_columns : IsDrawingOf
     (record (new_table ascii_full) { columns = new_column 0 ∷ []; rows = row_of ("x" ∷ "y" ∷ "z" ∷ []) ∷ [] }) (texts
     ("+---+"

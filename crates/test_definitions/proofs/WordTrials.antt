@@ -1,4 +1,4 @@
--- What clap has to say of words, computed: help and the version where they are asked for alone.
+-- Clap's faults for words, computed: help and the version if only they are requested.
 use Rattle.std.proofs.Common.{◌≡◌, List, [], ◌∷◌, codes, map, inl, inr, refl}
 use Prim.Native.String.{String}
 use Rattle.clap.proofs.OnLiterals.{clap_on_literals}
@@ -23,17 +23,17 @@ version : map faults (("-V" ∷ []) ∷ ("--version" ∷ "--help" ∷ []) ∷ []
 unfolding clap_on_literals
 version = refl
 
--- a word that isn't known, one file too many, a value that is missing, and one that is no number; help behind them isn't reached
+-- an unknown word, a second file, a missing value, and a value that isn't a number; help after them isn't reached
 mistakes : map faults (("--wide" ∷ []) ∷ ("a" ∷ "b" ∷ "-h" ∷ []) ∷ ("-w" ∷ []) ∷ ("-w" ∷ "wide" ∷ "-V" ∷ []) ∷ []) ≡ (kind.UnknownArgument ∷ []) ∷ (kind.UnknownArgument ∷ []) ∷ (kind.InvalidValue ∷ []) ∷ (kind.ValueValidation ∷ []) ∷ []
 unfolding clap_on_literals
 mistakes = refl
 
--- two options that say different things of one are taken by clap
+-- clap takes two options that contradict each other
 taken : map faults (("--rows" ∷ "--no-rows" ∷ []) ∷ ("-t" ∷ "-d" ∷ "," ∷ []) ∷ ([]) ∷ []) ≡ [] ∷ [] ∷ [] ∷ []
 unfolding clap_on_literals
 taken = refl
 
--- so a word that isn't known is no call for help
+-- so an unknown word isn't a request for help
 no_call_for_help : ¬ (IsAmong kind.DisplayHelp (faults ("--wide" ∷ [])))
 unfolding clap_on_literals
 no_call_for_help (inl is) = cc is

@@ -1,3 +1,3 @@
-//! Trials of the libraries' definitions: examples of what they say, computed by the check. It holds
-//! no code, and nothing stands on it.
+//! Trials of the libraries' definitions: examples that the prover computes. The crate has no code,
+//! and nothing depends on it.
 #![tactic(auto)]

@@ -1,5 +1,6 @@
-//! Tests of the libraries, and of the promises on them: what no clause says, above all that calls
-//! succeed where there is memory. Expected values come from outside. Nothing stands on this crate.
+//! Tests of the libraries, and of the promises about them, for facts that no clause states: above
+//! all that calls succeed if there is memory. Expected values come from outside. Nothing depends on
+//! this crate.
 #![tactic(auto)]
 
 #[cfg(test)]

@@ -1,4 +1,4 @@
-//! What the tests claim.
+//! Assertions and values that the tests share.
 
 use comfy_parts::{IntoRow, Row};
 use comfy_run::run::MemorySink;
@@ -25,7 +25,7 @@ pub fn assert_number(rt: &impl Abort, number: usize, wanted: usize) {
     assert_eq!(rt; number, wanted);
 }
 
-/// Compares a text that a call gives.
+/// Compares the text that a call returns.
 pub fn assert_given<E: Debug + Drop>(rt: &impl Abort, text: Result<String, E>, wanted: &str) {
     let text = text.expect(rt, "memory");
     assert_eq!(rt; text.as_str(), wanted);
@@ -36,12 +36,12 @@ pub fn assert_bytes(rt: &impl Abort, bytes: &[u8], wanted: &str) {
     assert_eq!(rt; bytes, wanted.as_bytes());
 }
 
-/// The row that a value is made into.
+/// The row that a value becomes.
 pub fn row_of<T: IntoRow>(rt: &(impl Abort + Alloc<A = Global>), value: T) -> Row {
     value.into_row(rt.alloc()).expect(rt, "memory")
 }
 
-/// A table of one row, added by a call that leaves the table known.
+/// A table of one row, added by a call that reports a lack of memory.
 pub fn table_of<T: IntoRow>(rt: &(impl Abort + Alloc<A = Global>), row: T) -> Table {
     let mut table = Table::new(rt.alloc());
     table.try_add_row(row).expect(rt, "memory");
@@ -62,7 +62,7 @@ pub fn assert_lines(rt: &impl Abort, lines: Lines, wanted: &str) {
     assert!(rt; wanted.next().is_none());
 }
 
-/// A sink in memory with room for so many bytes, and the call at which it fails.
+/// A sink in memory with room for this many bytes, and the call at which it fails.
 pub fn sink_of(
     rt: &(impl Abort + Alloc<A = Global>),
     room: usize,

@@ -1,4 +1,4 @@
-//! What can be said of a drawing from outside.
+//! Checks of a drawing from outside.
 
 use crate::controls::has_stray_control;
 use crate::drawing::Drawing;
@@ -10,7 +10,7 @@ use comfy_table::utils::arrangement::helper::count_border_columns;
 use comfy_table::{ContentArrangement, Result, Table};
 use std::alloc::Global;
 
-/// What is wrong with the drawing of a sample, if anything is.
+/// The fault of the drawing of a sample, if it has one.
 pub fn fault_of(alloc: Global, sample: &Sample) -> Result<Option<&'static str>> {
     let drawing = drawing_of(alloc, &sample.table)?;
     let fault = fault_of_counts(sample, &drawing);
@@ -76,7 +76,7 @@ fn fault_of_texts(
     Ok(None)
 }
 
-// whether the drawing has the texts of the cells
+// true if the drawing has the texts of the cells
 fn keeps_texts(alloc: Global, sample: &Sample, drawing: &Drawing) -> Result<bool> {
     let has_sequences = sample.contents.kind.has_sequences;
     let mut reader = Reader::new(alloc, sample.delimiter, has_sequences);
@@ -98,7 +98,7 @@ fn are_all(counts: &[usize], wanted: usize) -> bool {
     counts.iter().all(|count| *count == wanted)
 }
 
-// whether a line was cut by a height limit, or may have been so where the indicator doesn't tell
+// true if a line was cut by a height, or may have been cut if the indicator doesn't show it
 fn is_cut(sample: &Sample, drawing: &Drawing) -> bool {
     if sample.has_own_indicator {
         sample.contents.is_limited
@@ -107,7 +107,7 @@ fn is_cut(sample: &Sample, drawing: &Drawing) -> bool {
     }
 }
 
-// whether as many characters are visible of each line as without sequences
+// true if each line has as many visible characters as without sequences
 fn is_drawn_as_visible(alloc: Global, sample: &Sample, drawing: &Drawing) -> Result<bool> {
     let visible = sample.as_visible(alloc)?;
     is_drawn_alike(alloc, &visible, drawing)
@@ -118,8 +118,8 @@ fn is_drawn_alike(alloc: Global, visible: &Sample, drawing: &Drawing) -> Result<
     Ok(visible.contents.has_formed || other.has_counts_of(drawing))
 }
 
-/// Whether a frame line of so many characters keeps to the set width, where no constraint says
-/// otherwise.
+/// True if a frame line with this number of characters keeps to the set width, unless a constraint
+/// prevents it.
 pub fn keeps_to_width(table: &Table, count: usize) -> bool {
     let Some(width) = table.width() else {
         return true;

@@ -1,4 +1,4 @@
-//! Random cells and rows of awkward texts, and random settings of columns.
+//! Random cells and rows of difficult texts, and random settings of columns.
 
 use crate::scan::Scan;
 use crate::settings::alignment;
@@ -23,21 +23,21 @@ const CONSTRAINTS: [ColumnConstraint; 6] = [
     },
 ];
 
-/// What the rows of a table are made of, and what is known of those that were made.
+/// The kind of the texts in rows, and facts about the rows that were made.
 #[derive(Clone, Copy)]
 pub struct Contents {
-    /// What texts are made of.
+    /// The kind of the texts.
     pub kind: Kind,
-    // whether texts are without their sequences
+    // true if texts are without their sequences
     is_visible: bool,
-    /// Whether a row's height is limited.
+    /// True if a row's height is limited.
     pub is_limited: bool,
-    /// Whether a text without its sequences holds one that parts formed.
+    /// True if the parts of a text form a sequence after its sequences are taken out.
     pub has_formed: bool,
 }
 
 impl Contents {
-    /// Nothing was made yet. Texts are without their sequences where these are only to be visible.
+    /// No row was made yet. Texts are without their sequences if only their visible text is wanted.
     pub fn new(rng: &mut Pcg32, is_visible: bool) -> Contents {
         Contents {
             kind: Kind::new(rng),
@@ -88,7 +88,7 @@ impl Contents {
     }
 }
 
-// how many characters are visible of a text
+// the number of visible characters of a text
 fn count_visible(alloc: Global, text: &str) -> Result<usize> {
     let scan = Scan::of(alloc, text)?;
     Ok(scan.count)
@@ -102,8 +102,8 @@ fn with_settings(rng: &mut Pcg32, cell: Cell, kind: Kind) -> Cell {
     cell.set_alignment(alignment(rng))
 }
 
-/// Changes the settings of some columns. In three tables of four none has a constraint but that it
-/// is hidden. Now and then the first two stand in each other's place, with labels that say nothing.
+/// Changes the settings of some columns. In three of four tables the only constraint is that a
+/// column is hidden. Sometimes the first two columns are exchanged, and their labels don't say so.
 pub fn change_columns(rng: &mut Pcg32, columns: &mut [Column], kind: Kind) {
     let is_free = !once_in(rng, 4);
     for column in columns.iter_mut() {

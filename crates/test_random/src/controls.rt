@@ -4,7 +4,7 @@ use crate::scan::Scan;
 use comfy_table::{Result, Row, Table};
 use std::alloc::Global;
 
-/// Whether a drawn line has a control character beside its sequences, though no cell has one.
+/// True if a drawn line has a control character outside its sequences, though no cell has one.
 pub fn has_stray_control(alloc: Global, table: &Table) -> Result<bool> {
     Ok(has_control_in_lines(alloc, table)? && !has_control_in_rows(alloc, table)?)
 }
@@ -39,8 +39,8 @@ fn has_control_in_row(alloc: Global, knows_sequences: bool, row: &Row) -> Result
     Ok(false)
 }
 
-// whether a control character other than a line feed is seen in a text, whose sequences are seen
-// where they aren't known
+// true if a control character other than a line feed is visible in a text; its sequences are
+// visible if they aren't known
 fn has_control(alloc: Global, knows_sequences: bool, text: &str) -> Result<bool> {
     let mut scan = Scan::new(alloc, knows_sequences);
     scan.read(text)?;

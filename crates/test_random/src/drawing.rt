@@ -7,31 +7,31 @@ use std::mem;
 
 const BORDER: char = '│';
 
-// what stands between two pieces of a line
+// the character between two pieces of a line
 const JUNCTION: char = '┆';
 
-/// A drawing: how many characters its lines have, and what stands in the cells of each row.
+/// A drawing: the number of characters of each line, and the texts in the cells of each row.
 #[derive(Drop)]
 pub struct Drawing {
-    /// The characters of each frame line.
+    /// The number of characters of each frame line.
     pub frame_counts: Vec<usize>,
-    /// The characters that are visible of each line of a row.
+    /// The number of visible characters of each line of a row.
     pub row_counts: Vec<usize>,
-    /// Whether a line of a row has the indicator of a cut.
+    /// True if a line of a row has the indicator of a cut.
     pub has_indicator: bool,
-    /// Whether a piece of a line leaves a sequence open.
+    /// True if a piece of a line leaves a sequence open.
     pub leaves_open: bool,
-    /// For each row that has a line, the header first: its lines.
+    /// The lines of each row that has a line, the header first.
     pub rows: Vec<Vec<String>>,
     // the lines since the last frame line
     row: Vec<String>,
-    // what was read of the last line
+    // the scan of the last line
     scan: Scan,
 }
 
 impl Drawing {
-    /// No line was read yet. Sequences are read as such where they are known, and else as
-    /// characters.
+    /// No line was read yet. Sequences are read as sequences if they are known, and as characters
+    /// otherwise.
     pub fn new(alloc: Global, knows_sequences: bool) -> Drawing {
         Drawing {
             frame_counts: Vec::new(alloc),
@@ -71,15 +71,15 @@ impl Drawing {
         Ok(self.row_counts.push(self.scan.count)?)
     }
 
-    /// Whether another drawing has lines with the same numbers of characters.
+    /// True if another drawing has lines with the same numbers of characters.
     pub fn has_counts_of(&self, other: &Drawing) -> bool {
         self.frame_counts.as_slice() == other.frame_counts.as_slice()
             && self.row_counts.as_slice() == other.row_counts.as_slice()
     }
 }
 
-/// What a line of a row has between its side borders, cut at the junctions: the piece of the shown
-/// column at a place.
+/// The piece of the shown column at a place, in a line of a row: the text between its side borders,
+/// cut at the junctions.
 pub fn piece_at(line: &str, place: usize) -> &str {
     let line = line.strip_prefix(BORDER).unwrap_or(line);
     let line = line.strip_suffix(BORDER).unwrap_or(line);

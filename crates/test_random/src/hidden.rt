@@ -1,4 +1,4 @@
-//! Whether hidden columns tell nothing of their cells.
+//! Hidden columns show nothing of their cells.
 
 use comfy_table::{Cell, Column, Result, Row, Table};
 use std::alloc::Global;
@@ -6,7 +6,7 @@ use std::alloc::Global;
 // higher and wider than a random text
 const OTHER: &str = "another text\nof\nfour\nlines";
 
-/// Whether a table is drawn as before where other cells stand in its hidden columns, and beyond its
+/// True if a table is drawn as before with other cells in its hidden columns, and beyond its
 /// columns.
 pub fn hidden_columns_tell_nothing(alloc: Global, table: &Table) -> Result<bool> {
     let other = with_others(alloc, table)?;
@@ -37,7 +37,7 @@ fn row_with_others(alloc: Global, columns: &[Column], row: &Row) -> Result<Row> 
     Ok(other)
 }
 
-// the cell where its column is shown
+// the cell if its column is shown, or another one
 fn cell_or_other(alloc: Global, column: Option<&Column>, cell: &Cell) -> Result<Cell> {
     match column {
         Some(column) if !column.is_hidden() => Ok(cell.clone()?),

@@ -1,4 +1,4 @@
-//! Whether a drawing keeps the texts of its cells.
+//! Drawings keep the texts of their cells.
 
 use crate::drawing::{Drawing, piece_at};
 use crate::scan::Scan;
@@ -13,14 +13,14 @@ pub struct Reader {
     knows_sequences: bool,
     drawn: Scan,
     wanted: Scan,
-    /// Whether the cells of each row that was read have the characters of their texts, in order and
-    /// but for spaces and delimiters, each under the same sequences.
+    /// True if the cells of each row that was read have the characters of their texts, in order,
+    /// except spaces and delimiters, and each under the same sequences.
     pub are_kept: bool,
 }
 
 impl Reader {
-    /// No row was read yet of a table with this delimiter, whose setting for sequences is on where
-    /// they are known.
+    /// No row was read yet of a table with this delimiter. `custom_styling` is on if sequences are
+    /// known.
     pub fn new(alloc: Global, delimiter: char, knows_sequences: bool) -> Reader {
         Reader {
             delimiter,
@@ -31,7 +31,7 @@ impl Reader {
         }
     }
 
-    /// Reads what a drawing has of each row beside its cells.
+    /// Reads the drawn lines of each row, and compares them with its cells.
     pub fn read_rows(
         &mut self,
         columns: &[Column],
@@ -75,7 +75,7 @@ impl Reader {
         Ok(())
     }
 
-    // reads a cell's text, which was drawn whole, or up to some place where the row's height is
+    // reads a cell's text, which was drawn whole, or up to some place if the row's height is
     // limited
     fn read_text(&mut self, cell: &Cell, is_limited: bool) -> Result<()> {
         let content = cell.content()?;
@@ -94,8 +94,8 @@ fn delimiter_of(delimiter: char, column: &Column, cell: &Cell) -> char {
         .unwrap_or(delimiter)
 }
 
-// the lines of a row that hold nothing but its texts: where sequences are taken out, the last line
-// may end in a cut, whose characters can form others
+// the lines of a row that have nothing but its texts; if sequences are taken out, the last line may
+// end in a cut, whose characters can form others
 fn lines_to_compare<'a>(
     knows_sequences: bool,
     row: &Row,

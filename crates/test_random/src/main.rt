@@ -1,8 +1,8 @@
-//! Draws random tables of awkward texts, and looks at each drawing from outside. With each of them
-//! it draws another one of many scripts, whose edges have to be straight where its characters fit
-//! their columns. How many others are crooked is printed too: it is no fault. Standard input holds
-//! `SEED COUNT`: the same seed gives the same tables. Each fault is printed with the number of its
-//! table. Status 1 where there is one.
+//! Draws random tables of difficult texts, and checks each drawing from outside. With each table it
+//! draws another one of many scripts, whose edges must be straight if its characters fit their
+//! columns. It also prints how many other tables aren't straight, which is no fault. Standard input
+//! has `SEED COUNT`: the same seed gives the same tables. Each fault is printed with the number of
+//! its table. The status is 1 if there is one.
 #![tactic(auto)]
 
 mod check;
@@ -27,10 +27,10 @@ use sample::Sample;
 use std::alloc::Global;
 use std::process::ExitCode;
 
-// what is said where the input is something else
+// the message for another input
 const WANTED: &str = "SEED COUNT is wanted";
 
-// how many tables have a fault, and how many of which nothing is promised aren't straight
+// the number of tables with a fault, and the number of those that aren't straight and needn't be
 #[derive(Clone, Copy)]
 struct Counts {
     faults: u64,
@@ -49,7 +49,7 @@ fn main(rt: HostRuntime) -> anyhow::Result<ExitCode> {
     }
 }
 
-// what is counted in so many tables; each fault is printed
+// the counts of this many tables; each fault is printed
 fn look_at(rt: &HostRuntime, rng: Pcg32, count: u64) -> anyhow::Result<Counts> {
     let mut rng = rng;
     let mut counts = Counts {
@@ -73,8 +73,8 @@ fn counted(counts: Counts, has_fault: bool, is_crooked: bool) -> Counts {
     }
 }
 
-// what is wrong with the next sample, or else with the next table of many scripts, and whether that
-// one is crooked where nothing is promised
+// the fault of the next sample, or else of the next table of many scripts, and true if that table
+// isn't straight and needn't be
 fn next_found(alloc: Global, rng: &mut Pcg32) -> Result<(Option<&'static str>, bool)> {
     let of_sample = fault_of_sample(alloc, rng)?;
     let edges = straight::next_edges(alloc, rng)?;
@@ -86,7 +86,7 @@ fn fault_of_sample(alloc: Global, rng: &mut Pcg32) -> Result<Option<&'static str
     check::fault_of(alloc, &sample)
 }
 
-// the seed, and how many tables
+// the seed, and the number of tables
 fn asked_for(rt: &HostRuntime) -> anyhow::Result<(u64, u64)> {
     let line = rt.lines(rt.alloc()).next().context(WANTED)??;
     seed_and_count(line.as_str()).context(WANTED)

@@ -1,4 +1,4 @@
-//! Random tables, built through the public surface.
+//! Random tables, built through public functions.
 
 use crate::contents::{Contents, change_columns};
 use crate::settings::arrangement;
@@ -11,29 +11,29 @@ use std::alloc::Global;
 
 const WIDTHS: [u16; 9] = [0, 1, 2, 3, 7, 12, 20, 35, 65535];
 
-/// A table, and what a reader of it can't ask for.
+/// A table, and facts that its functions don't return.
 #[derive(Drop)]
 pub struct Sample {
-    /// In the style `UTF8_FULL`, which no text and no delimiter has a character of.
+    /// The table, in the style `UTF8_FULL`, whose characters are in no text and no delimiter.
     pub table: Table,
     /// The table's delimiter.
     pub delimiter: char,
-    /// What its rows are made of. Where texts have sequences, the table's setting for these is on.
+    /// The contents of its rows. If texts have sequences, `custom_styling` is on.
     pub contents: Contents,
-    /// Whether cut lines end in another indicator than that of a new table.
+    /// True if cut lines end in another indicator than that of a new table.
     pub has_own_indicator: bool,
-    // the numbers that it was made of
+    // the numbers from which it was made
     numbers: Pcg32,
 }
 
 impl Sample {
-    /// The same table with texts as they are drawn: without their sequences.
+    /// The same table with its visible texts, without their sequences.
     pub fn as_visible(&self, alloc: Global) -> Result<Sample> {
         Sample::new(alloc, &mut self.numbers.clone()?, true)
     }
 
-    /// A table of up to five rows and four columns, with texts without their sequences where these
-    /// are only to be visible.
+    /// A table of up to five rows and four columns. Texts are without their sequences if only their
+    /// visible text is wanted.
     pub fn new(alloc: Global, rng: &mut Pcg32, is_visible: bool) -> Result<Sample> {
         let numbers = rng.clone()?;
         let mut sample = Sample::without_rows(alloc, numbers, Contents::new(rng, is_visible));
@@ -86,7 +86,7 @@ impl Sample {
         Ok(())
     }
 
-    // a cell in the last row that no column knows, or that a column of the other rows knows
+    // adds a cell to the last row, in no column of the table, or in a column of the other rows
     fn add_late_cell(&mut self, alloc: Global, rng: &mut Pcg32) -> Result<()> {
         let cell = self.contents.cell(alloc, rng)?;
         let last = self.table.row_count().saturating_sub(1);

@@ -1,26 +1,26 @@
-//! What is visible of a text, read from outside: its characters, and the sequences that are open
+//! The visible part of a text, read from outside: its characters, and the sequences that are open
 //! before each.
 
 use comfy_table::Result;
 use std::alloc::Global;
 
-/// What stands after a line that was cut, unless a table has an indicator of its own.
+/// The character after a line that was cut, unless a table has its own indicator.
 pub const INDICATOR: char = '…';
 
-/// What was read of one text or of several.
+/// The result of reading one or several texts.
 #[derive(Drop)]
 pub struct Scan {
-    // whether sequences are read as such, and not as characters
+    // true if sequences are read as sequences, and not as characters
     knows_sequences: bool,
     delimiter: char,
     // the parameters of the sequences that are open
     open: String,
-    /// The characters but for spaces, line feeds, delimiters and the indicator of a cut, each after
+    /// The characters except spaces, line feeds, delimiters and the indicator of a cut, each after
     /// the sequences that are open before it.
     pub found: String,
-    /// All characters that were visible.
+    /// All visible characters.
     pub visible: String,
-    /// How many these are.
+    /// The number of visible characters.
     pub count: usize,
 }
 
@@ -37,7 +37,7 @@ impl Scan {
         }
     }
 
-    /// What is read of one text where sequences are known.
+    /// Reads one text, with sequences.
     pub fn of(alloc: Global, text: &str) -> Result<Scan> {
         let mut scan = Scan::new(alloc, true);
         scan.read(text)?;
@@ -62,7 +62,7 @@ impl Scan {
         Ok(())
     }
 
-    /// Whether a sequence is open at the end.
+    /// True if a sequence is open at the end.
     pub fn is_open(&self) -> bool {
         !self.open.is_empty()
     }
@@ -72,8 +72,8 @@ impl Scan {
         self.open.clear();
     }
 
-    // reads the sequence or the character at a text's front, if there is one, and returns what is
-    // after it
+    // reads the sequence or the character at the front of a text, if there is one, and returns the
+    // rest
     fn read_front<'a>(&mut self, text: &'a str) -> Result<&'a str> {
         if self.knows_sequences
             && let Some((parameters, behind)) = sequence_of(text)
@@ -107,7 +107,7 @@ impl Scan {
     }
 }
 
-// the parameters of the sequence at a text's front, and what is after it
+// the parameters of the sequence at the front of a text, and the rest
 fn sequence_of<'a>(text: &'a str) -> Option<(&'a str, &'a str)> {
     let (parameters, behind) = text.strip_prefix("\u{1b}[")?.split_once('m')?;
     let is_sequence = parameters

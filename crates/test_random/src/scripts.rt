@@ -1,4 +1,4 @@
-//! Words of many scripts that random texts are made of.
+//! Words of many scripts for random texts.
 
 use crate::texts::{once_in, one_of};
 use comfy_table::Result;
@@ -7,9 +7,9 @@ use rand::RngExt;
 use rand_pcg::Pcg32;
 use std::alloc::Global;
 
-// words whose characters join no other: Chinese, Japanese, Korean, Latin with marks, Greek,
-// Cyrillic, Arabic without an alef, Hebrew without a lamed, Devanagari, Thai, Georgian, emoji that
-// stand by themselves, and printable ASCII
+// words whose characters don't join others: Chinese, Japanese, Korean, Latin with marks, Greek,
+// Cyrillic, Arabic without an alef, Hebrew without a lamed, Devanagari, Thai, Georgian, single
+// emoji, and printable ASCII
 const WORDS: [&str; 24] = [
     "年度报告",
     "東京タワー",
@@ -91,8 +91,8 @@ const JOINED: [&str; 48] = [
     "\u{338}",
 ];
 
-// what is no word: parts of words above, joiners, selectors, parts of Hangul, control characters,
-// and U+FE01 directly beside U+FE0E and U+FE0F, in each order
+// texts that aren't words: parts of words above, joiners, selectors, parts of Hangul, control
+// characters, and U+FE01 directly beside U+FE0E and U+FE0F, in each order
 const WILD: [&str; 46] = [
     "🇩",
     "🏽",
@@ -144,18 +144,18 @@ const WILD: [&str; 46] = [
 
 const SEQUENCES: [&str; 4] = ["\u{1b}[31m", "\u{1b}[0m", "\u{1b}[1;4m", "\u{1b}[m"];
 
-/// Which words a text is made of.
+/// The kind of words in a text.
 #[derive(Clone, Copy)]
 pub struct Words {
     /// Each of their characters takes at most one terminal column.
     pub are_narrow: bool,
-    /// Also pieces that are no words, in any order and without spaces between.
+    /// There are also pieces that aren't words, in any order and without spaces between them.
     pub are_wild: bool,
-    /// SGR sequences stand between them.
+    /// SGR sequences are between them.
     pub have_sequences: bool,
 }
 
-/// A text of up to seven words, with spaces between and now and then a line feed.
+/// A text of up to seven words, with spaces between them and sometimes a line feed.
 pub fn text(alloc: Global, rng: &mut Pcg32, words: Words) -> Result<String> {
     let mut text = String::new(alloc);
     for _ in 0..rng.random_range(0u32..8) {
@@ -164,7 +164,7 @@ pub fn text(alloc: Global, rng: &mut Pcg32, words: Words) -> Result<String> {
     Ok(text)
 }
 
-// a word, or nothing where it has to be narrow and isn't
+// a word, or nothing if it must be narrow and isn't
 fn word(rng: &mut Pcg32, words: Words) -> &'static str {
     let word = any_word(rng, words.are_wild);
     if words.are_narrow && !characters_fit(word, 1) {

@@ -1,4 +1,4 @@
-//! Random settings that every table and every cell has.
+//! Random settings of tables and cells.
 
 use crate::texts::one_of;
 use comfy_table::style::{CellAlignment, ContentArrangement};

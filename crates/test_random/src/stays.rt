@@ -1,9 +1,9 @@
-//! What was shown stays where a further row widens no column.
+//! Shown lines stay if a further row widens no column.
 
 use comfy_table::{ContentArrangement, Result, Table};
 
-/// Whether the lines above the bottom border stay where the first row is added once more. That is
-/// promised where no width is kept and each cell of the row has a column.
+/// True if the lines above the bottom border stay when the first row is added again. This is
+/// promised without a width, if each cell of the row has a column.
 pub fn shown_lines_stay(table: &Table) -> Result<bool> {
     let Some(row) = table.row(0) else {
         return Ok(true);
@@ -20,7 +20,7 @@ fn keeps_width(table: &Table) -> bool {
     table.width().is_some() && !matches!(table.content_arrangement(), ContentArrangement::Disabled)
 }
 
-// Whether a drawing begins with the lines of another one above its bottom border.
+// True if a drawing begins with the lines of another one above its bottom border.
 fn has_lines_above_bottom(table: &Table, longer: &Table) -> Result<bool> {
     let bottom = table.style().bottom_border;
     let has_bottom = bottom.left.is_some()

@@ -1,5 +1,5 @@
-//! Random tables of many scripts, whose edges have to be straight in terminal columns wherever that
-//! is promised.
+//! Random tables of many scripts, whose edges must be straight in terminal columns whenever that is
+//! promised.
 
 mod promise;
 mod random;
@@ -16,17 +16,17 @@ use std::alloc::Global;
 
 const WIDTHS: [u16; 6] = [10, 18, 25, 37, 60, 200];
 
-/// What was found of the edges of a table.
+/// The result for the edges of a table.
 #[derive(Clone, Copy)]
 pub struct Edges {
-    /// What is wrong with them, if anything is.
+    /// Their fault, if there is one.
     pub fault: Option<&'static str>,
-    /// Whether they aren't straight in a table of which nothing is promised.
+    /// True if they aren't straight, in a table for which nothing is promised.
     pub are_crooked: bool,
 }
 
-/// What is found of the edges of the next random table. They are promised to be straight where it
-/// is as wide as its texts, which may be any, and where each character fits its column.
+/// The result for the edges of the next random table. They are promised to be straight if the table
+/// is as wide as its texts, whatever these are, and if each character fits its column.
 pub fn next_edges(alloc: Global, rng: &mut Pcg32) -> Result<Edges> {
     let mut table = Table::new(alloc);
     edges_in(alloc, rng, &mut table)

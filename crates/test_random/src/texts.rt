@@ -1,4 +1,4 @@
-//! Pieces that random texts are made of, and delimiters.
+//! Pieces of random texts, and delimiters.
 
 use comfy_table::Result;
 use rand::RngExt;
@@ -39,10 +39,10 @@ const PIECES: [&str; 28] = [
     "\u{feff}",
 ];
 
-// how many of the pieces, from the front, are printable ASCII or line feeds
+// the number of the first pieces that are printable ASCII or line feeds
 const PLAIN: usize = 7;
 
-// SGR sequences, and parts of such
+// SGR sequences, and parts of sequences
 const SEQUENCES: [&str; 13] = [
     "\u{1b}[31m",
     "\u{1b}[0m",
@@ -59,7 +59,7 @@ const SEQUENCES: [&str; 13] = [
     "\u{1b}",
 ];
 
-// how many of them, from the front, are whole
+// the number of the first ones that are whole sequences
 const WHOLE: usize = 5;
 
 const DELIMITERS: [char; 15] = [
@@ -67,7 +67,7 @@ const DELIMITERS: [char; 15] = [
     '\r', '\u{0}',
 ];
 
-// how many of them, from the front, are printable ASCII
+// the number of the first ones that are printable ASCII
 const PLAIN_DELIMITERS: usize = 6;
 
 const INDICATORS: [&str; 7] = [
@@ -80,17 +80,18 @@ const INDICATORS: [&str; 7] = [
     "",
 ];
 
-/// What the texts of a table are made of.
+/// The kind of texts in a table.
 #[derive(Clone, Copy)]
 pub struct Kind {
-    /// Texts and delimiters are printable ASCII, but for sequences.
+    /// Texts and delimiters are printable ASCII, except for sequences.
     pub is_printable: bool,
-    /// Texts hold SGR sequences that count nothing; parts of such too, where they needn't be plain.
+    /// Texts have SGR sequences that count nothing. Unless texts are printable, they have parts of
+    /// sequences too.
     pub has_sequences: bool,
 }
 
 impl Kind {
-    /// What the texts of the next table are made of.
+    /// The kind of texts in the next table.
     pub fn new(rng: &mut Pcg32) -> Kind {
         let is_printable = once_in(rng, 3);
         let has_sequences = once_in(rng, 2);
@@ -123,7 +124,7 @@ pub fn delimiter(rng: &mut Pcg32, kind: Kind) -> char {
     one_of(rng, allowed(&DELIMITERS, PLAIN_DELIMITERS, kind), ' ')
 }
 
-// so many from the front, where texts have to be plain, or else all
+// the first `plain` ones if texts are printable, and otherwise all
 fn allowed<'a, T>(all: &'a [T], plain: usize, kind: Kind) -> &'a [T] {
     match all.get(..plain) {
         Some(front) if kind.is_printable => front,
@@ -136,12 +137,12 @@ pub fn indicator(rng: &mut Pcg32) -> &'static str {
     one_of(rng, &INDICATORS, "")
 }
 
-/// One of these values, or another where there is none.
+/// One of these values, or `otherwise` if there is none.
 pub fn one_of<T: Copy>(rng: &mut Pcg32, values: &[T], otherwise: T) -> T {
     values.choose(rng).copied().unwrap_or(otherwise)
 }
 
-/// Yes once in so many times, and never for 0.
+/// Returns true once in this many times on average, and never for 0.
 pub fn once_in(rng: &mut Pcg32, times: u32) -> bool {
     if times == 0 {
         return false;

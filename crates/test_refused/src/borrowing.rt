@@ -1,4 +1,4 @@
-//! The calls that take memory and only read the table.
+//! Calls that allocate memory and only read the table.
 
 use crate::comparison::difference;
 use crate::fixtures::{WORKED, fill_worked};
@@ -6,14 +6,14 @@ use crate::outcome::{Outcome, succeeded};
 use comfy_table::{Lines, Result, Table};
 use std::alloc::Global;
 
-/// What came of the call of this name on a new table that `fill_worked` fills.
+/// The outcome of the call with this name on a new table that `fill_worked` fills.
 pub fn outcome_of(alloc: Global, table: &mut Table, call: &str) -> Result<Outcome> {
     fill_worked(alloc, table)?;
     outcome_on(table, WORKED, call)
 }
 
-/// What came of the call of this name: after a refusal the table is as it was, and these lines are
-/// drawn as ever.
+/// The outcome of the call with this name. After a refusal the table is unchanged, and its drawing
+/// has these lines.
 pub fn outcome_on(table: &Table, wanted: &str, call: &str) -> Result<Outcome> {
     let copy = table.clone()?;
     match read(table, call) {
@@ -24,7 +24,7 @@ pub fn outcome_on(table: &Table, wanted: &str, call: &str) -> Result<Outcome> {
     }
 }
 
-// Whether the call of this name succeeds; none where there is no such call.
+// True if the call with this name succeeds, or `None` if there is no such call.
 fn read(table: &Table, call: &str) -> Option<bool> {
     let is_read = match call {
         "clone" => succeeded(table.clone()),
@@ -39,7 +39,7 @@ fn read(table: &Table, call: &str) -> Option<bool> {
     Some(is_read)
 }
 
-// Whether these lines, between which the text has line feeds, and no more, are left.
+// True if exactly these lines are left; `wanted` separates them by line feeds.
 fn are_lines(lines: Lines, wanted: &str) -> bool {
     let mut wanted = wanted.split('\n');
     for line in lines {

@@ -1,4 +1,4 @@
-//! The calls of a cell. After a refusal those that own it leave nothing to look at.
+//! Calls of a cell. After a refusal, calls that own the cell leave nothing to check.
 
 use crate::outcome::{Outcome, succeeded};
 use comfy_table::{Attribute, Cell, Result};
@@ -6,7 +6,7 @@ use std::alloc::Global;
 
 const TEXT: &str = "Now\nadd some\nmulti line stuff";
 
-/// What came of the call of this name.
+/// The outcome of the call with this name.
 pub fn outcome_of(alloc: Global, call: &str) -> Result<Outcome> {
     let result = match call {
         "new" => succeeded(Cell::new(alloc, TEXT)),
@@ -18,7 +18,7 @@ pub fn outcome_of(alloc: Global, call: &str) -> Result<Outcome> {
     Ok(Outcome::of(result))
 }
 
-// What came of a call that only reads a cell: after a refusal the cell is as it was.
+// The outcome of a call that only reads a cell: after a refusal the cell is unchanged.
 fn outcome_on(cell: &Cell, call: &str) -> Result<Outcome> {
     let copy = cell.clone()?;
     let is_done = match call {

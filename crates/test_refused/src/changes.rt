@@ -1,5 +1,5 @@
-//! The calls that change a table. All but those that add several rows leave it as it was where they
-//! are refused.
+//! Calls that change a table. After a refusal all leave it unchanged, except those that add several
+//! rows.
 
 use crate::comparison::difference;
 use crate::fixtures::fill_full;
@@ -11,7 +11,7 @@ use std::alloc::Global;
 // More cells than the table has columns.
 const WIDER: [&str; 5] = ["one", "two", "three", "four", "five"];
 
-/// What came of the call of this name on a copy of a new table that `fill_full` fills.
+/// The outcome of the call with this name on a copy of a new table that `fill_full` fills.
 pub fn outcome_of(alloc: Global, source: &mut Table, call: &str) -> Result<Outcome> {
     fill_full(alloc, source)?;
     // A copy has no room to spare, so that a further row or column takes memory.
@@ -27,7 +27,7 @@ fn outcome_on(alloc: Global, table: &mut Table, source: &mut Table, call: &str) 
     }
 }
 
-// Whether the call of this name succeeds; none where there is no such call.
+// True if the call with this name succeeds, or `None` if there is no such call.
 fn change(table: &mut Table, call: &str) -> Option<bool> {
     let succeeded = match call {
         "discover_columns" => table.discover_columns().is_ok(),
@@ -39,7 +39,7 @@ fn change(table: &mut Table, call: &str) -> Option<bool> {
     Some(succeeded)
 }
 
-// The same of the calls that set the header or add a row.
+// The same for calls that set the header or add a row.
 fn put_row(table: &mut Table, call: &str) -> Option<bool> {
     let row = WIDER;
     let succeeded = match call {

@@ -1,8 +1,8 @@
-//! What differs between two tables.
+//! Differences between two tables.
 
 use comfy_table::{Column, Result, Row, Table};
 
-/// The first part in which two tables differ, the drawing last; none where they are the same.
+/// The first part in which two tables differ, the drawing last, or `None` if they are the same.
 pub fn difference(table: &Table, other: &Table) -> Result<Option<&'static str>> {
     let difference = if !is_same_header(table, other) {
         Some("the header")
@@ -25,7 +25,7 @@ fn is_drawn_alike(table: &Table, other: &Table) -> Result<bool> {
     Ok(text == other.to_text()?)
 }
 
-/// Whether two rows have the same cells and the same greatest height.
+/// True if two rows have the same cells and the same greatest height.
 pub fn is_same_row(row: &Row, other: &Row) -> bool {
     row.cell_iter().as_slice() == other.cell_iter().as_slice()
         && row.height_limit() == other.height_limit()

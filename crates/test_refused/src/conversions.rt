@@ -1,4 +1,4 @@
-//! The conversions that take memory. What they own is dropped when they are refused.
+//! Conversions that allocate memory. The value that they own is dropped if they are refused.
 
 use crate::outcome::{Outcome, succeeded};
 use comfy_table::{Cell, IntoCell, IntoCells, IntoRow, Result};
@@ -12,7 +12,7 @@ const EIGHT: (&str, u32, bool, char, &str, u8, i64, &str) = (
     TEXT, 17, true, 'x', TEXT, 5, -1, "end",
 );
 
-/// What came of the conversion of this name.
+/// The outcome of the conversion with this name.
 pub fn outcome_of(alloc: Global, name: &str) -> Result<Outcome> {
     let is_converted = match name {
         "str::into_cell" => succeeded(TEXT.into_cell(alloc)),

@@ -1,5 +1,4 @@
-//! The calls of which `tools/try/refused_requests.sh` counts the requests. They only read the
-//! table.
+//! Calls whose requests `tools/try/refused_requests.sh` counts. They only read the table.
 
 use crate::outcome::{Outcome, succeeded};
 use comfy_table::utils::arrangement::arrange_content;
@@ -11,7 +10,7 @@ use std::alloc::Global;
 // Texts that are wider than the room for them.
 const WRAPPED: [&str; 2] = ["Now add some lines", "multi line stuff"];
 
-/// What came of the call of this name, with a new table.
+/// The outcome of the call with this name, with a new table.
 pub fn outcome_of(alloc: Global, table: &mut Table, call: &str) -> Result<Outcome> {
     match call {
         "format_row" => outcome_of_formatting(alloc, table, "a", 40),
@@ -56,7 +55,7 @@ fn outcome_of_cutting(alloc: Global, table: &Table) -> Result<Outcome> {
     Ok(Outcome::of(is_formatted))
 }
 
-// Arranges so many rows in 27 terminal columns: less three borders and four spaces, 20 are left.
+// Arranges this many rows in 27 terminal columns. Three borders and four spaces leave 20 of them.
 fn outcome_of_arranging(table: &mut Table, rows: usize) -> Result<Outcome> {
     table.set_content_arrangement(ContentArrangement::Dynamic);
     table.set_width(27);

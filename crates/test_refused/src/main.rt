@@ -1,9 +1,9 @@
-//! Makes each call that standard input names, one a line, and prints what came of it. Where the
-//! call was refused its memory, it looks at what stands then. Of a call that adds several rows it
-//! says on standard error how many are kept.
+//! Makes each call that standard input names, one on each line, and prints its outcome. If the call
+//! was refused memory, the state after it is checked. For a call that adds several rows, standard
+//! error gets the number of rows that are kept.
 //!
-//! Status 1 where something is not as promised, or no call has a name. Status 3, with nothing
-//! printed, where memory was refused outside of the calls: then this run says nothing of them.
+//! The status is 1 if something isn't as promised, or if no call has a name. It is 3, with nothing
+//! printed, if memory was refused outside of the calls. Such a run says nothing about them.
 #![tactic(auto)]
 
 mod borrowing;
@@ -28,7 +28,7 @@ use std::process::ExitCode;
 
 const NOT_TRIED: u8 = 3;
 
-// All of standard input is read before the first call, so that no call stands after it.
+// All of standard input is read before the first call, so that no read follows a call.
 fn main(rt: HostRuntime) -> io::Result<ExitCode> {
     let Ok(names) = io::read_to_string(rt.alloc(), rt.reader()) else {
         return Ok(ExitCode::from(NOT_TRIED));
@@ -53,7 +53,7 @@ fn print(rt: &HostRuntime, name: &str, outcome: Outcome) -> io::Result<()> {
     println!(rt; "{name}: {outcome}")
 }
 
-// What came of the call of a name. An error says that memory was refused outside of the call.
+// The outcome of the call with a name. An error means that memory was refused outside of the call.
 fn outcome_of(alloc: Global, name: &str) -> Result<Outcome> {
     outcome_with(alloc, &mut Table::new(alloc), name)
 }

@@ -1,29 +1,29 @@
-//! What came of a call.
+//! Outcomes of calls.
 
 use std::fmt::{self, Formatter, Write};
 
-/// Whether a call succeeded, by what it returned, which is dropped.
+/// True if a call succeeded, given its result, which is dropped.
 pub fn succeeded<T: Drop, E: Drop>(returned: Result<T, E>) -> bool {
     returned.is_ok()
 }
 
-/// What came of a call.
+/// The outcome of a call.
 #[derive(Clone, Copy)]
 pub enum Outcome {
     /// It succeeded.
     Succeeded,
-    /// It was refused its memory, and what stands then is as promised.
+    /// It was refused memory, and the state after it is as promised.
     AsPromised,
-    /// It was refused its memory, and this many of the rows that it adds are kept, as promised.
+    /// It was refused memory, and this many of its rows are kept, as promised.
     Kept(usize),
-    /// It was refused its memory, and this is not as promised.
+    /// It was refused memory, and this isn't as promised.
     Broken(&'static str),
     /// No call has this name.
     Unknown,
 }
 
 impl Outcome {
-    /// What came of a call that promises nothing after a refusal, but that it says so.
+    /// The outcome of a call whose only promise is that it reports a refusal.
     pub fn of(succeeded: bool) -> Outcome {
         if succeeded {
             Outcome::Succeeded
@@ -32,7 +32,8 @@ impl Outcome {
         }
     }
 
-    /// What came of a call that was refused, by what differs from the promise, if anything does.
+    /// The outcome of a call that was refused, given the difference from the promise, if there is
+    /// one.
     pub fn refused(difference: Option<&'static str>) -> Outcome {
         match difference {
             Some(part) => Outcome::Broken(part),
@@ -40,7 +41,7 @@ impl Outcome {
         }
     }
 
-    /// How many rows are kept, where the outcome says it.
+    /// The number of rows that are kept, if the outcome has it.
     pub fn kept(self) -> Option<usize> {
         match self {
             Outcome::Kept(rows) => Some(rows),
@@ -48,7 +49,7 @@ impl Outcome {
         }
     }
 
-    /// Whether nothing is wrong.
+    /// True if nothing is wrong.
     pub fn is_good(self) -> bool {
         matches!(
             self,

@@ -1,11 +1,11 @@
-//! The calls of a row.
+//! Calls of a row.
 
 use crate::comparison::is_same_row;
 use crate::outcome::{Outcome, succeeded};
 use comfy_table::{Cell, IntoRow, Result, Row};
 use std::alloc::Global;
 
-/// What came of the call of this name: after a refusal the row is as it was.
+/// The outcome of the call with this name: after a refusal the row is unchanged.
 pub fn outcome_of(alloc: Global, call: &str) -> Result<Outcome> {
     let mut source = ["17", "on the road,\nback at noon"].into_row(alloc)?;
     source.max_height(2);

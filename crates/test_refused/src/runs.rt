@@ -21,7 +21,7 @@ const ROOM: usize = 1024;
 
 const NO_MEMORY: &str = "ctable: out of memory\n";
 
-/// What came of the call of this name: after a refusal nothing was written.
+/// The outcome of the call with this name: after a refusal nothing was written.
 pub fn outcome_of(alloc: Global, name: &str) -> Result<Outcome> {
     let mut sink = MemorySink::new(alloc, ROOM, 0)?;
     let mut messages = MemorySink::new(alloc, ROOM, 0)?;

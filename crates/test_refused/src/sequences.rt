@@ -1,4 +1,4 @@
-//! The calls that take memory where SGR sequences stand in a cell, and count nothing.
+//! Calls that allocate memory for cells with SGR sequences that count nothing.
 
 use crate::borrowing::outcome_on;
 use crate::outcome::{Outcome, succeeded};
@@ -15,7 +15,7 @@ const BOLD: &str = "\
 | \u{1b}[1mdef\u{1b}[0m |
 +-----+";
 
-/// What came of the call of this name, with a new table.
+/// The outcome of the call with this name, with a new table.
 pub fn outcome_of(alloc: Global, table: &mut Table, name: &str) -> Result<Outcome> {
     match name {
         "Cell::new" => Ok(Outcome::of(succeeded(Cell::new(alloc, TEXT)))),

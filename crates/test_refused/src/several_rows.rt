@@ -1,5 +1,5 @@
-//! The calls that add several rows: where they are refused, the rows before the refused one are
-//! there.
+//! Calls that add several rows. If they are refused, the rows before the refused one are in the
+//! table.
 
 use crate::comparison::difference;
 use crate::outcome::Outcome;
@@ -13,7 +13,7 @@ const ROWS: [&[&str]; 3] = [
     &["one", "two", "three", "four", "five", "six"],
 ];
 
-/// What came of the call of this name on a table that is like `source`.
+/// The outcome of the call with this name on a table that is equal to `source`.
 pub fn outcome_on(
     alloc: Global,
     table: &mut Table,
@@ -27,7 +27,7 @@ pub fn outcome_on(
     }
 }
 
-// Whether the call of this name succeeds; none where there is no such call.
+// True if the call with this name succeeds, or `None` if there is no such call.
 fn add(table: &mut Table, rows: Vec<&[&str]>, call: &str) -> Option<bool> {
     let succeeded = match call {
         "add_rows" => table.add_rows(rows).is_ok(),
@@ -38,7 +38,7 @@ fn add(table: &mut Table, rows: Vec<&[&str]>, call: &str) -> Option<bool> {
     Some(succeeded)
 }
 
-/// The predicate that adds whatever it is asked for.
+/// The predicate that adds each row.
 pub fn always<T>(_count: usize, _added: &T) -> bool {
     true
 }
@@ -51,7 +51,7 @@ fn add_first(table: &mut Table, count: usize) -> Result<()> {
     Ok(())
 }
 
-// What came of the call by the table that it was made on, which was as `source`.
+// The outcome of the call, given its table, which was equal to `source` before.
 fn outcome_after(table: &Table, source: &mut Table) -> Result<Outcome> {
     let kept = table.row_count().saturating_sub(source.row_count());
     if kept >= ROWS.len() {

@@ -19,7 +19,7 @@ pub fn append_unless_empty(table: &mut Table, row: Row) -> Result<()>
     table.try_add_row_if(|_count, row| row.cell_count() > 0, row)
 }
 
-/// Appends rows as far as there is memory for them, and says how many of them are in the table.
+/// Appends rows until memory runs out, and returns the number of rows in the table.
 pub fn added_count(table: &mut Table, rows: Vec<Row>) -> usize
     ensures { (result ≤ length rows.items)
         × (table.new ≡ with_rows (take result rows.items) table.old) }
@@ -41,8 +41,8 @@ pub fn copied_with(table: &Table, row: Row) -> Result<Table>
     Ok(copy)
 }
 
-/// Appends a cell to the first row. The columns stay as they are, and so does everything where
-/// there is no row.
+/// Appends a cell to the first row. The columns stay as they are, and so does everything if there
+/// is no row.
 pub fn append_to_first(table: &mut Table, cell: Cell) -> Result<()>
     ensures columns { table.new.columns ≡ table.old.columns }
     ensures none { length table.old.rows ≡ 0 → table.new ≡ table.old }
@@ -53,7 +53,8 @@ pub fn append_to_first(table: &mut Table, cell: Cell) -> Result<()>
     Ok(())
 }
 
-/// Sets the header. There are then as many columns as before or as it has cells, whichever is more.
+/// Sets the header. The table then has as many columns as before, or as the header has cells if
+/// these are more.
 pub fn widen(table: &mut Table, header: Row) -> Result<()>
     ensures { OnOk result (length table.new.columns
         ≡ max (length header.cells) (length table.old.columns)) }
@@ -69,7 +70,7 @@ pub fn copy_padding(from: &Column, to: &mut Column)
     to.set_padding(from.padding());
 }
 
-/// Sets the padding of the second column. The rows stay, and no column comes or goes.
+/// Sets the padding of the second column. The rows stay, and the number of columns too.
 pub fn pad_second(table: &mut Table)
     ensures rows { table.new.rows ≡ table.old.rows }
     ensures count { length table.new.columns ≡ length table.old.columns }
@@ -79,7 +80,7 @@ pub fn pad_second(table: &mut Table)
     }
 }
 
-/// A table for a terminal of this width, all of whose settings are set.
+/// Returns a table for a terminal of this width, with all settings.
 pub fn table_for_terminal(alloc: Global, width: u16) -> Result<Table>
     ensures { IfOk result (λ table. table
         ≡ record (new_table ascii_markdown) {

@@ -1,4 +1,4 @@
-//! Callers that draw a table as a whole, or by its steps.
+//! Callers that draw a whole table, or draw it step by step.
 
 ghost use Rattle.std.specs.Prelude.{◌≡◌, ◌++◌, All, IfOk, List, length, string_bytes};
 ghost use Rattle.comfy_parts.specs.Presets.{utf8_full};
@@ -18,7 +18,7 @@ use comfy_table::utils::build_table;
 use comfy_table::{ContentArrangement, Lines, Result, Row, Table};
 use std::alloc::Global;
 
-/// How many lines a drawing has.
+/// Returns the number of lines of a drawing.
 pub fn drawn_height(table: &Table) -> Result<usize>
     ensures { IfOk result (λ height. (lines : List Text) × IsDrawingOf table.now lines
         × (height ≡ length lines)) }
@@ -36,8 +36,8 @@ pub fn titled(alloc: Global, title: &str, table: &Table) -> Result<String>
     Ok(text)
 }
 
-/// A header and a row within a width, as a program prints them. Cut at its line feeds the text has
-/// no line of more characters, where the texts are printable ASCII and the width is enough for
+/// Draws a header and a row within a width, as a program prints them. No line of the text has more
+/// characters than the width, if the texts are printable ASCII, and the width is enough for
 /// borders, paddings and one character for each column.
 pub fn printed_within(alloc: Global, header: Row, row: Row, width: u16) -> Result<String>
     ensures { IfOk result (λ text. IsPrintedWithin width (table_within width header row)
@@ -53,9 +53,8 @@ pub fn printed_within(alloc: Global, header: Row, row: Row, width: u16) -> Resul
     table.to_terminated_text()
 }
 
-/// A text in a table of its own, drawn within a width. Nothing of it is lost: the lines that it is
-/// wrapped into, one after another, have all its characters, in order, but for spaces and line
-/// feeds.
+/// Draws a text in a table of its own, within a width. The wrapped lines, one after another, have
+/// all characters of the text, in order, except spaces and line feeds.
 pub fn drawn_whole(alloc: Global, text: &str, width: u16) -> Result<Lines>
     ensures { IfOk result (λ lines. IsDrawnWhole (text_within width text.now) text.now lines) }
 {
@@ -68,8 +67,8 @@ pub fn drawn_whole(alloc: Global, text: &str, width: u16) -> Result<Lines>
     table.lines()
 }
 
-/// A report, as of Chinese names and how often each was met. All its lines are equally many
-/// terminal columns wide, whatever the script.
+/// Draws a report, for example of Chinese names and their counts. All lines take the same number of
+/// terminal columns, for every script.
 pub fn report(alloc: Global, header: Row, rows: Vec<Row>) -> Result<Lines>
     ensures { IfOk result (λ lines. IsShortRow header → All IsShortRow rows.items
         → AreEquallyWide lines) }

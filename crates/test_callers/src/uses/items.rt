@@ -10,7 +10,7 @@ ghost use Rattle.test_callers.specs.Uses.{rows_left};
 
 use comfy_table::{Items, Result, Table};
 
-/// Gives a row for each of the numbers that are left.
+/// Gives a row for each remaining number.
 #[derive(Drop)]
 struct NumberRows<'a> {
     left: &'a [u64],

@@ -1,4 +1,4 @@
-//! Callers that run the program, and make its devices.
+//! Callers that run the program, and create its devices.
 
 ghost use Rattle.std.specs.Prelude.{◌≡◌, ◌≤◌, ◌++◌, IfOk, List, None, Some, false, is_some, length, take, true, ℕ};
 
@@ -6,7 +6,7 @@ use comfy_run::run::{DeviceFault, FromReader, MemorySink, Sink, Source, ToWriter
 use std::alloc::Global;
 use std::io::{Read, Write};
 
-/// Asks the program for a width that is no number. It returns 2, reads nothing and draws nothing.
+/// Runs the program with a width that is no number. It returns 2, reads nothing and draws nothing.
 pub fn asks_for_no_number<R: Source, W: Sink, F: Sink>(
     alloc: Global,
     source: &mut R,
@@ -20,8 +20,8 @@ pub fn asks_for_no_number<R: Source, W: Sink, F: Sink>(
     program(alloc, &["wide"], source, sink, messages)
 }
 
-/// The devices over a reader and a writer. Neither has failed, and the reader's end wasn't read
-/// yet.
+/// Creates the devices over a reader and a writer. Neither has failed, and the reader's end hasn't
+/// been read.
 pub fn devices_over<R: Read, W: Write>(reader: R, writer: W) -> (FromReader<R>, ToWriter<W>)
     ensures { result ≡ (
       record {
@@ -35,22 +35,22 @@ pub fn devices_over<R: Read, W: Write>(reader: R, writer: W) -> (FromReader<R>, 
     (FromReader::new(reader), ToWriter::new(writer))
 }
 
-/// How many bytes a sink in memory has taken.
+/// Returns the number of bytes that a sink in memory has taken.
 pub fn taken(sink: &MemorySink) -> usize
     ensures { result ≡ length sink.now.bytes }
 {
     sink.bytes().len()
 }
 
-/// Reads once. No more comes than the buffer holds.
+/// Reads once, at most as many bytes as the buffer holds.
 pub fn read_once<R: Source>(source: &mut R, buffer: &mut [u8]) -> Result<usize, DeviceFault>
     ensures { IfOk result (λ count. count ≤ length buffer.old) }
 {
     source.read(buffer)
 }
 
-/// Writes once. Of a sink that says its bytes, it has the front of the piece after those that it
-/// had.
+/// Writes once. If a sink gives its bytes, they are those that it had, and then a prefix of the
+/// piece.
 pub fn write_once<W: Sink>(sink: &mut W, piece: &[u8]) -> Result<usize, DeviceFault>
     ensures { IfOk result (λ count. (had : List ℕ) → W.taken sink.old ≡ Some had
         → W.taken sink.new ≡ Some (had ++ take count piece.now)) }
@@ -58,8 +58,8 @@ pub fn write_once<W: Sink>(sink: &mut W, piece: &[u8]) -> Result<usize, DeviceFa
     sink.write(piece)
 }
 
-/// Runs the program over a reader and writers, as the standard streams are. On yes the reader's end
-/// was read, and neither the reader nor the writer has failed.
+/// Runs the program over a reader and writers, as the standard streams are. If it returns true, the
+/// reader's end was read, and neither the reader nor the writer has failed.
 pub fn drew_all<R: Read, W: Write, E: Write>(
     alloc: Global,
     words: &[&str],

@@ -1,4 +1,4 @@
-//! Callers that draw and look at cells whose texts hold sequences.
+//! Callers that draw and inspect cells whose texts have sequences.
 
 ghost use Rattle.std.specs.Prelude.{◌==◌, ◌≡◌, ◌<◌, All, IfOk, List, Some, ℕ, length, map, not, slice_get, string_bytes, true};
 ghost use Rattle.std.specs.List.{list_any, slice_split};
@@ -20,9 +20,10 @@ use comfy_table::utils::formatting::content_split::ColumnDisplayInfo;
 use comfy_table::{Cell, Lines, Result, Row, Table};
 use std::alloc::Global;
 
-/// Draws a table with the sequences inside its cells. No text that is written for a line of a cell
-/// leaves one open. The lines that aren't cut resume those of the cell, and the others are closed.
-/// Where nothing else holds ESC, the drawing without its sequences is that without styling.
+/// Draws a table with sequences inside its cells. No text that is written for a line of a cell
+/// leaves a sequence open. The lines that aren't cut resume the sequences of the cell, and the
+/// others are closed. If nothing else has ESC, the drawing without its sequences is the one without
+/// styling.
 pub fn drawn_with_sequences(table: &mut Table) -> Result<Lines>
     ensures set { table.new ≡ record table.old { custom_styling = true } }
     ensures closed { IfOk result (IsDrawnWithCells (NoneIsOpenAtTheEnd table.new) table.new) }
@@ -35,8 +36,8 @@ pub fn drawn_with_sequences(table: &mut Table) -> Result<Lines>
     table.lines()
 }
 
-/// Draws a table, with colours or without. What is visible of its lines is equally wide, where the
-/// table is straight over any widths, and neither its texts nor its indicator and style hold ESC.
+/// Draws a table, with colours or without. Its visible lines are equally wide if the table is
+/// straight over any widths, and neither its texts nor its indicator and style have ESC.
 pub fn drawn_in_colour(table: &Table) -> Result<Lines>
     ensures { IfOk result (λ lines. IsFreeOfEscapes table.now
         → ((widths : List ℕ) → IsStraightTable table.now widths)
@@ -45,8 +46,8 @@ pub fn drawn_in_colour(table: &Table) -> Result<Lines>
     table.lines()
 }
 
-/// A header and a row with sequences inside their cells, as a program prints them. Cut at its line
-/// feeds the text has no line that leaves a sequence open.
+/// Draws a header and a row with sequences inside their cells, as a program prints them. No line of
+/// the text leaves a sequence open.
 pub fn printed_closed(alloc: Global, header: Row, row: Row) -> Result<String>
     ensures { IfOk result (λ text. All LeavesNoneOpen
         (slice_split (λ b. b == 10) (string_bytes text))) }
@@ -58,8 +59,8 @@ pub fn printed_closed(alloc: Global, header: Row, row: Row) -> Result<String>
     table.to_terminated_text()
 }
 
-/// A header and a row as a program prints them. Where their texts hold no control character, the
-/// text has none but its line feeds.
+/// Draws a header and a row as a program prints them. If their texts have no control character,
+/// line feeds are the only ones of the text.
 pub fn printed_without_controls(alloc: Global, header: Row, row: Row) -> Result<String>
     ensures { IfOk result (λ text. IsFreeOfControls (table_of_two header row)
         → All HasNoControl (slice_split (λ b. b == 10) (string_bytes text))) }
@@ -71,7 +72,7 @@ pub fn printed_without_controls(alloc: Global, header: Row, row: Row) -> Result<
     table.to_terminated_text()
 }
 
-/// Has the sequences inside the cells of a table count nothing, and says whether they did already.
+/// Turns on `custom_styling` for a table, and returns true if it was on already.
 pub fn turned_on(table: &mut Table) -> bool
     ensures was { result ≡ table.old.custom_styling }
     ensures on { table.new ≡ record table.old { custom_styling = true } }
@@ -81,7 +82,7 @@ pub fn turned_on(table: &mut Table) -> bool
     was
 }
 
-/// A text, and a reset after it where it leaves a sequence open.
+/// Returns a text, with a reset after it if it leaves a sequence open.
 pub fn closed_text(alloc: Global, text: &str) -> Result<String>
     ensures { IfOk result (λ whole. string_bytes whole ≡ closed text.now) }
 {
@@ -92,7 +93,7 @@ pub fn closed_text(alloc: Global, text: &str) -> Result<String>
     Ok(whole)
 }
 
-/// The terminal columns that are visible of the first text line of a cell.
+/// Returns the visible width of the first text line of a cell.
 pub fn first_visible_width(cell: &Cell) -> Option<usize>
     ensures { result ≡ slice_get (map measure (map visible_text cell.now.text_lines)) 0 }
 {
@@ -100,7 +101,7 @@ pub fn first_visible_width(cell: &Cell) -> Option<usize>
     widths.first().copied()
 }
 
-/// What is visible of a text line of a cell, copied.
+/// Returns a copy of the visible text of a text line.
 pub fn visible_line(alloc: Global, cell: &Cell, position: usize) -> Result<String>
     requires { position < length cell.now.text_lines }
     ensures { IfOk result (λ text. slice_get (map visible_text cell.now.text_lines) position
@@ -110,14 +111,14 @@ pub fn visible_line(alloc: Global, cell: &Cell, position: usize) -> Result<Strin
     Ok(String::from_str(alloc, texts[position].as_str())?)
 }
 
-/// Whether no ESC stands in a cell, so that it is written as it is.
+/// Returns true if a cell has no ESC, so that it is written as it is.
 pub fn is_written_as_it_is(cell: &Cell) -> bool
     ensures { result ≡ not (list_any has_escape cell.now.text_lines) }
 {
     !has_escape(cell)
 }
 
-/// How many lines are written for a cell in a column of its own delimiter.
+/// Returns the number of lines that are written for a cell in a column with its own delimiter.
 pub fn written_height(cell: &Cell, info: &ColumnDisplayInfo) -> Result<usize>
     ensures { IfOk result (λ height. height
         ≡ length (line_texts info.now.content_width 44 cell.now.text_lines)) }

@@ -1,4 +1,4 @@
-//! Callers that measure texts, cut them and wrap them.
+//! Callers that measure, cut and wrap texts.
 
 ghost use Rattle.std.specs.Prelude.{◌≡◌, ◌≤◌, ◌+◌, ◌*◌, ◌/◌, IfOk, length, true};
 ghost use Rattle.comfy_parts.specs.Columns.{IsOneColumnStyle, TextFits};
@@ -12,7 +12,8 @@ use comfy_table::utils::formatting::content_split::{
 use comfy_table::{Column, Result, TableStyle};
 use std::alloc::Global;
 
-/// How many lines a text takes at a width, in a column of its own. In printable ASCII they are few.
+/// Returns the number of lines of a text at a width, in a column of its own. In printable ASCII
+/// they are few.
 pub fn height_at(alloc: Global, text: &str, width: u16) -> Result<usize>
     ensures { IfOk result (λ height. 1 ≤ width → is_printable_ascii text.now ≡ true
         → height ≤ 2 * (length text.now / width) + 1) }
@@ -22,8 +23,8 @@ pub fn height_at(alloc: Global, text: &str, width: u16) -> Result<usize>
     Ok(split_line_ref(alloc, text, &info, ' ')?.len())
 }
 
-/// Whether a text is sure to fit a column of this width, wrapped at the delimiter: its characters
-/// do, and the delimiter adds one terminal column.
+/// Returns true only if a text fits a column of this width, wrapped at the delimiter: its
+/// characters fit, and the delimiter adds one terminal column.
 pub fn is_sure_to_fit(text: &str, delimiter: char, width: usize) -> bool
     ensures { result ≡ true → TextFits width delimiter text.now }
 {
@@ -31,8 +32,8 @@ pub fn is_sure_to_fit(text: &str, delimiter: char, width: usize) -> bool
     adds_one_column(delimiter) && characters_fit(text, width)
 }
 
-/// The style where its characters are one terminal column wide, else a preset, whose characters
-/// are.
+/// Returns the style if each of its characters takes one terminal column, or else a preset of such
+/// characters.
 pub fn straight_style(style: TableStyle) -> TableStyle
     ensures { IsOneColumnStyle result }
 {

@@ -1,9 +1,9 @@
-//! Which characters fit, and that presets are of one column.
+//! Characters that fit, and presets whose characters take one terminal column.
 
 use comfy_parts::content_split::characters_fit;
 use comfy_parts::style::presets::ALL;
 
-// Each text, a width in terminal columns, and whether each of its characters fits and no two
+// Each text, a width in terminal columns, and true if each of the text's characters fits and no two
 // selectors clash.
 const FITTING: [(&str, usize, bool); 16] = [
     ("", 0, true),
@@ -15,7 +15,7 @@ const FITTING: [(&str, usize, bool); 16] = [
     ("\u{643}\u{62a}\u{627}\u{628}", 1, true),
     ("\u{5e9}\u{5dc}\u{5d5}\u{5dd}", 1, true),
     ("\u{1781}\u{17d2}\u{1798}\u{17c2}\u{179a}", 1, true),
-    // the one character of three columns
+    // the only character that takes three terminal columns
     ("\u{17d8}", 2, false),
     ("\u{17d8}", 3, true),
     // a family, a flag

@@ -1,4 +1,4 @@
-//! That each conversion succeeds, and gives the texts that the original's would.
+//! Each conversion succeeds, and gives the expected texts.
 
 use crate::support::{assert_given, assert_number, row_of};
 use comfy_parts::{Cell, Cells, IntoCells, IntoRow, Row};
@@ -6,7 +6,7 @@ use std::alloc::{Alloc, Global};
 use std::fmt::{self, Display, Formatter, Write};
 use std::process::Abort;
 
-// The cells of the row that a value is made into have these contents, between which there are bars.
+// Fails unless the cells of the row that a value becomes have these contents, which bars separate.
 fn assert_row<T: IntoRow>(rt: &(impl Abort + Alloc<A = Global>), value: T, wanted: &str) {
     assert_contents(rt, &row_of(rt, value), wanted);
 }
@@ -23,7 +23,7 @@ fn assert_contents(rt: &impl Abort, row: &Row, wanted: &str) {
     assert!(rt; wanted.next().is_none());
 }
 
-// The cells that a list is made into have these contents, between which there are bars.
+// Fails unless the cells that a list becomes have these contents, which bars separate.
 fn assert_cells<T: IntoCells>(rt: &(impl Abort + Alloc<A = Global>), values: T, wanted: &str) {
     let cells = values.into_cells(rt.alloc()).expect(rt, "memory");
     assert_row(rt, cells, wanted);
@@ -73,7 +73,7 @@ fn lists_are_rows_in_order(rt: HostRuntime) {
     assert_row(&rt, [-1i64], "-1");
 }
 
-// No clause says that the call succeeds.
+// No clause states that the call succeeds.
 #[test]
 fn long_lists_are_rows(rt: HostRuntime) {
     assert_number(&rt, row_of(&rt, [7u64; 60]).cell_count(), 60);

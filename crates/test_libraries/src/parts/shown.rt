@@ -1,5 +1,5 @@
-//! Hashes of cells, and the debug texts of cells, rows, tables and infos: a text holds that of each
-//! part.
+//! Hashes of cells, and the debug texts of cells, rows, tables and infos. The debug text of a value
+//! contains that of each part.
 
 use crate::support::table_of;
 use comfy_parts::content_split::ColumnDisplayInfo;
@@ -20,7 +20,7 @@ fn cell_of(rt: &(impl Abort + Alloc<A = Global>), text: &str) -> Cell {
     Cell::new(rt.alloc(), text).expect(rt, "memory")
 }
 
-// The same text with each setting, and other texts.
+// The same text with one setting each, and other texts.
 fn other_cells(rt: &(impl Abort + Alloc<A = Global>)) -> [Cell; 7] {
     let bold = cell_of(rt, "a\nb").add_attribute(Attribute::Bold);
     [
@@ -46,7 +46,7 @@ fn equal_cells_alone_hash_alike(rt: HostRuntime) {
 const CELL: &str = "Cell { text_lines: [\"a\", \"b\"], delimiter: None, alignment: None, \
     foreground: Some(Green), background: None, attributes: [] }";
 
-// The debug text of a value holds these words.
+// Fails unless the debug text of a value contains these words.
 fn assert_shown<T: Debug>(rt: &(impl Abort + Alloc<A = Global>), value: &T, words: &str) {
     let text = format!(in rt.alloc(); "{value:?}").expect(rt, "memory");
     assert!(rt; text.contains(words));

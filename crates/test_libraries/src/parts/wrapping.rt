@@ -1,4 +1,4 @@
-//! Texts and the lines that they are wrapped into.
+//! Texts and their wrapped lines.
 
 use crate::support::assert_given;
 use comfy_parts::Column;
@@ -26,8 +26,8 @@ const WRAPPED: [(&str, u16, char, &str); 9] = [
     ("ab cd", 0, ' ', "a|b|c|d"),
 ];
 
-// The lines of a text at a content width, which may be 0, joined by bars, are these: those borrowed
-// from it, and those that are copied.
+// Fails unless a text has these lines, joined by bars, at a content width, which may be 0. Both the
+// borrowed lines and the copied ones are compared.
 fn assert_wrapped(
     rt: &(impl Abort + Alloc<A = Global>),
     text: &str,

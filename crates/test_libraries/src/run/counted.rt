@@ -1,4 +1,5 @@
-//! Devices that count their calls: nothing is read after the end, and no message follows a success.
+//! Devices that count their calls: nothing is read after the end, and no message is written after a
+//! success.
 
 ghost use Rattle.std.specs.Prelude.{Some, is_none};
 ghost use Rattle.devices.specs.Device.{left_in};
@@ -9,7 +10,7 @@ use comfy_run::run::{DeviceFault, MemorySink, MemorySource, Sink, Source, progra
 use std::alloc::{Alloc, Global};
 use std::process::Abort;
 
-// A source over memory, and how often it was read.
+// A source over memory, and the number of its reads.
 #[derive(Drop)]
 struct CountedSource<'a> {
     source: MemorySource<'a>,
@@ -31,7 +32,7 @@ impl Source for CountedSource<'_> {
     }
 }
 
-// A sink in memory, and how often it was written to, also with an empty piece.
+// A sink in memory, and the number of its writes, including those of an empty piece.
 #[derive(Drop)]
 struct CountedSink {
     sink: MemorySink,
@@ -58,8 +59,8 @@ impl Sink for CountedSink {
     }
 }
 
-// The words and the input of the program, the call at which its output fails, and how often it
-// reads, writes its output and writes a message, and its status.
+// The words and the input of the program, and the call at which its output fails. Then the numbers
+// of its reads, of writes of its output and of a message, and its status.
 type Calls = (
     &'static [&'static str],
     &'static [u8],

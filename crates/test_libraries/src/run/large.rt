@@ -1,5 +1,5 @@
-//! Inputs that are long in each direction: no clause says that they must be drawn. What is drawn of
-//! them follows from the rules, since each is one piece many times over.
+//! Inputs that are long in each direction. No clause states that they must be drawn. Their drawings
+//! follow from the rules, since each is one piece many times.
 
 use crate::support::{assert_bytes, sink_of};
 use comfy_run::run::{FromReader, MemorySource, Settings, ToWriter, run};
@@ -11,11 +11,11 @@ use csv_tables::{Expansion, Look, Noun, RowSeparators, Selection};
 use std::alloc::{Alloc, AllocError, Global};
 use std::process::Abort;
 
-// A text: pieces, each as often as its number says.
+// A text: pieces, each with the number of its repetitions.
 pub(super) type Pieces = &'static [(&'static str, usize)];
 
-// A table: its input for `run` and for `draw`, and what is drawn of it without a width and in 40
-// terminal columns.
+// A table: its input for `run` and for `draw`, and its drawings without a width and in 40 terminal
+// columns.
 struct Large {
     tabs: Pieces,
     commas: Pieces,
@@ -142,7 +142,7 @@ const FIELD: Large = Large {
     ],
 };
 
-// A field of 774 words in red, 10 kB, of which sequences count nothing.
+// A field of 774 red words, 10 kB, whose sequences count nothing.
 const SEQUENCES: Large = Large {
     tabs: &[],
     commas: &[
@@ -212,7 +212,7 @@ fn wanted(rt: &(impl Abort + Alloc<A = Global>), large: &Large, width: Option<u1
     text_of(rt.alloc(), pieces).expect(rt, "memory")
 }
 
-// What `run` draws, from memory, and from a reader to a writer.
+// Compares the output of `run`, from memory, and from a reader to a writer.
 fn assert_run(rt: &(impl Abort + Alloc<A = Global>), large: &Large, width: Option<u16>) {
     let input = text_of(rt.alloc(), large.tabs).expect(rt, "memory");
     let wanted = wanted(rt, large, width);
@@ -236,7 +236,7 @@ fn assert_streamed(
     assert_bytes(rt, bytes.as_slice(), wanted);
 }
 
-// How records are drawn in this width.
+// The options for records in this width.
 pub(super) fn options(alloc: Global, width: Option<u16>, has_sequences: bool) -> Options {
     Options {
         input: InputOptions {
@@ -273,7 +273,7 @@ pub(super) fn options(alloc: Global, width: Option<u16>, has_sequences: bool) ->
     }
 }
 
-// What `draw` draws, from a reader to a writer.
+// Compares the output of `draw`, from a reader to a writer.
 fn assert_records(
     rt: &(impl Abort + Alloc<A = Global>),
     large: &Large,
@@ -308,8 +308,8 @@ fn large_records_are_drawn(rt: HostRuntime) {
     }
 }
 
-// 20,000 records of two fields, the second a number: what is drawn of them for Markdown, and of the
-// first one expanded.
+// 20,000 records of two fields, of which the second is a number: their drawing for Markdown, and
+// the drawing of the first one expanded.
 const MARKED: Pieces = &[("| a |  b |\n|---|---:|\n", 1), ("| x | 12 |\n", 20_000)];
 
 const EXPANDED: Pieces = &[
@@ -326,7 +326,8 @@ fn large_records_are_drawn_for_markdown_and_expanded(rt: HostRuntime) {
     assert_formed(&rt, Expansion::Always, false, EXPANDED);
 }
 
-// What `draw` draws of these records so; expanded, of the first one alone.
+// Compares the output of `draw` for these records in this form. Expanded, only the first one is
+// drawn.
 fn assert_formed(
     rt: &(impl Abort + Alloc<A = Global>),
     expansion: Expansion,
@@ -350,7 +351,7 @@ fn assert_formed(
     assert!(rt; is_markdown == (bytes.len() == wanted.len()));
 }
 
-// 1,000 lines of one cell of 2,000 characters, 2 MB: the drawing has 2,001 lines of 2,005 bytes.
+// 1,000 lines of one cell with 2,000 characters, 2 MB. The drawing has 2,001 lines of 2,005 bytes.
 #[test]
 fn two_megabytes_are_drawn(rt: HostRuntime) {
     let mut input = String::new(rt.alloc());

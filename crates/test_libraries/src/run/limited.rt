@@ -1,4 +1,5 @@
-//! Under a limit: how much of an input is read, however its reader parts it.
+//! Reads under a limit: the number of bytes that are read, for readers that deliver different
+//! sizes.
 
 use super::large::{Pieces, options, text_of};
 use crate::support::assert_bytes;
@@ -9,7 +10,7 @@ use std::alloc::{Alloc, Global};
 use std::io::{self, Read};
 use std::process::Abort;
 
-// A reader that gives at most so many bytes at a call, and how many it gave in all.
+// A reader that gives at most this many bytes at a call, and the number of bytes that it gave.
 #[derive(Drop)]
 struct PartedReader<'a> {
     rest: &'a [u8],
@@ -31,11 +32,11 @@ impl Read for PartedReader<'_> {
 // A header and 40,000 records of 5 bytes: 200,004 bytes.
 const INPUT: Pieces = &[("a,b\n", 1), ("x,12\n", 40_000)];
 
-// How many bytes are given at a call: all that are asked for, 40,000, 1,000, 7.
+// The greatest numbers of bytes at a call: all that are wanted, 40,000, 1,000, 7.
 const PARTS: [usize; 4] = [usize::MAX, 40_000, 1_000, 7];
 
-// How many bytes are read under this limit, where at most so many are given at a call, and what is
-// drawn.
+// The number of bytes that are read under this limit, if a call gives at most this many, and the
+// drawing.
 fn drawn(
     rt: &(impl Abort + Alloc<A = Global>),
     limit: usize,
@@ -99,7 +100,8 @@ fn large_input(rt: &(impl Abort + Alloc<A = Global>), front: &[u8]) -> Vec<u8> {
     input
 }
 
-// What is drawn of such an input under a limit of two records, in the column of this name if any.
+// The drawing of such an input under a limit of two records, of the column with this name if there
+// is one.
 fn drawn_or_refused(
     rt: &(impl Abort + Alloc<A = Global>),
     front: &[u8],
@@ -120,7 +122,7 @@ fn drawn_or_refused(
 }
 
 // If the beginning of an input has no text or no records of its own, all of it is read. The error
-// then says what is wrong with it, and not that memory ran out.
+// then reports the fault in the input, and not that memory ran out.
 #[test]
 fn a_byte_that_is_not_utf8_is_reported(rt: HostRuntime) {
     let refused = drawn_or_refused(&rt, b"a,b\n1,2\n3,\xff\n", None);

@@ -1,4 +1,4 @@
-//! Outputs of two pieces: what was written where there is no memory for the second, or no room.
+//! Outputs of two pieces: the written bytes if there is no memory for the second piece, or no room.
 
 ghost use Rattle.std.specs.Prelude.{◌++◌, ⊤, false};
 ghost use Rattle.comfy_parts.specs.TextPieces.{text_left};
@@ -36,7 +36,7 @@ impl Pieces for TwoTexts {
     }
 }
 
-// What makes two texts of any input.
+// A renderer that gives two texts for any input.
 #[derive(Drop)]
 struct Twofold {
     is_refused: bool,
@@ -78,8 +78,8 @@ impl Render for Twofold {
     }
 }
 
-// Whether the second text is refused, the sink's room and the call of it that fails; how the run
-// ends, and what was written.
+// True if the second text is refused, the sink's room, and the call at which it fails; then the end
+// of the run, and the written bytes.
 const CASES: [(bool, usize, u64, &str, &str); 5] = [
     (false, 64, 0, "all", "first\nsecond\n"),
     (true, 64, 0, "unfinished", "first\n"),

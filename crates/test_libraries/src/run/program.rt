@@ -1,4 +1,4 @@
-//! What the program writes and reports, and its statuses.
+//! The output, the messages and the statuses of the program.
 
 use crate::support::{README_DRAWN, assert_bytes, assert_given, assert_number, sink_of};
 use comfy_run::run::{MemorySource, RunError, program};
@@ -8,13 +8,13 @@ use std::process::Abort;
 
 const USAGE: &str = "usage: ctable [WIDTH|- [disabled|dynamic|full [STYLE]]]\n";
 
-/// The table of the README, as the program reads it.
+/// The table of the README, as input for the program.
 pub const README: &[u8] = b"Header1\tHeader2\tHeader3
 This is a text\tThis is another text\tThis is the third text
 This is another text\tNow\x0badd some\x0bmulti line stuff\tThis is awesome
 ";
 
-// The picture that the README has of the words `40 dynamic UTF8_FULL`.
+// The drawing in the README for the words `40 dynamic UTF8_FULL`.
 const DRAWN_IN_40: &str = "\
 ┌────────────┬────────────┬────────────┐
 │ Header1    ┆ Header2    ┆ Header3    │
@@ -39,7 +39,7 @@ pub const SMALL: &str = "\
 +---+---+
 ";
 
-// What a terminal column for each content is enough for.
+// A drawing whose columns have one terminal column for their contents.
 const NARROW: &str = "\
 +---+---+
 | a | c |
@@ -64,15 +64,15 @@ const WIDENED: &str = "\
 +--------------+-------------+
 ";
 
-// The calls at which the source, the sink and the reports of a run fail, and how many bytes it may
-// write.
+// The calls at which the source, the sink and the messages of a run fail, and the room of the sink
+// in bytes.
 type Faults = (u64, u64, u64, usize);
 
 // Devices that don't fail.
 const SOUND: Faults = (0, 0, 0, 4096);
 
-// The words of a run, its input, the faults of its devices, its status, what it writes, and what it
-// reports.
+// The words of a run, its input, the faults of its devices, its status, its output, and its
+// messages.
 type Ended = (
     &'static [&'static str],
     &'static [u8],
@@ -82,7 +82,7 @@ type Ended = (
     &'static str,
 );
 
-// Runs the program, and compares its status, what it wrote and what it reported.
+// Runs the program, and compares its status, its output and its messages.
 fn assert_ends(rt: &(impl Abort + Alloc<A = Global>), wanted: Ended) {
     let (words, input, faults, status, output, messages) = wanted;
     let (failing_read, failing_write, failing_report, room) = faults;
@@ -95,7 +95,7 @@ fn assert_ends(rt: &(impl Abort + Alloc<A = Global>), wanted: Ended) {
     assert_bytes(rt, reports.bytes(), messages);
 }
 
-// The words and the input of a run that succeeds, and what it draws.
+// The words and the input of a run that succeeds, and its drawing.
 type DrawnRun = (&'static [&'static str], &'static [u8], &'static str);
 
 const DRAWINGS: [DrawnRun; 15] = [
@@ -107,7 +107,7 @@ const DRAWINGS: [DrawnRun; 15] = [
     (&[], b"a\tb\nc\td\n", SMALL),
     (&[], b"a\tb\nc\td", SMALL),
     (&[], b"a\tb\r\nc\td\r\n", SMALL),
-    // a TAB divides two cells
+    // a TAB separates two cells
     (&[], b"\t\n", "+---+---+\n|   |   |\n+=======+\n+---+---+\n"),
     // a vertical TAB breaks a line in a cell
     (
@@ -115,7 +115,7 @@ const DRAWINGS: [DrawnRun; 15] = [
         b"a\nb\x0bc\td",
         "+---+---+\n| a |   |\n+=======+\n| b | d |\n| c |   |\n+---+---+\n",
     ),
-    // both words write the number 0, so each column has one terminal column for its content
+    // both words are the number 0, so that each column has one terminal column for its content
     (&["0", "dynamic"], b"ab\tcd\n", NARROW),
     (&["000", "dynamic"], b"ab\tcd\n", NARROW),
     (&["000"], b"a\tb\nc\td\n", SMALL),
@@ -129,10 +129,10 @@ const DRAWINGS: [DrawnRun; 15] = [
         b"Hello\tthere\na\tb\n",
         "| Hello | there |\n|-------|-------|\n| a     | b     |\n",
     ),
-    // sequences are left alone
+    // sequences stay as they are
     (&[], b"h\n\x1b[1mab\x1b[0m\n", BOLD),
     // borders and paddings take 7 of the 30 columns, and the longest texts 10 of the other 23; of
-    // the 13 that are left the first column gets 7 and the second 6
+    // the remaining 13 the first column gets 7 and the second 6
     (&["30", "full"], b"Hello\tthere\na\tb\n", WIDENED),
 ];
 
@@ -143,7 +143,7 @@ fn tables_are_drawn(rt: HostRuntime) {
     }
 }
 
-// Runs the program on devices that don't fail: it succeeds.
+// Runs the program on devices that don't fail. It must succeed.
 fn assert_draws(rt: &(impl Abort + Alloc<A = Global>), wanted: DrawnRun) {
     let (words, input, drawn) = wanted;
     assert_ends(rt, (words, input, SOUND, 0, drawn, ""));
@@ -161,7 +161,7 @@ const REFUSED: [&[&str]; 8] = [
     &["-", "disabled", "ASCII_FULL", "-"],
 ];
 
-// A source that fails at once shows that it isn't read.
+// A source that fails at once isn't read.
 #[test]
 fn other_words_are_refused(rt: HostRuntime) {
     for words in &REFUSED {
@@ -176,7 +176,7 @@ const UNREAD: &str = "ctable: the input can't be read\n";
 const UNWRITTEN: &str = "ctable: the output can't be written\n";
 
 const ENDED: [Ended; 9] = [
-    // bytes that are no text
+    // bytes that aren't UTF-8
     (&[], b"\xff", (0, 0, 0, 4096), 1, "", NOT_UTF8),
     (&[], b"a\n\xe2\x9c", (0, 0, 0, 4096), 1, "", NOT_UTF8),
     // one read gives the input, and one shows its end
@@ -186,7 +186,7 @@ const ENDED: [Ended; 9] = [
     (&[], README, (0, 1, 0, 4096), 1, "", UNWRITTEN),
     // a sink with room for ten bytes takes the first ten
     (&[], README, (0, 0, 0, 10), 1, "+---------", UNWRITTEN),
-    // a fault of the sink for reports changes no status
+    // a fault of the sink for messages changes no status
     (&[], b"a\tb\nc\td\n", (0, 0, 1, 4096), 0, SMALL, ""),
     (&[], b"\xff", (0, 0, 1, 4096), 1, "", ""),
     (&["x"], b"a\n", (0, 0, 1, 4096), 2, "", ""),
@@ -199,7 +199,7 @@ fn faults_have_their_ends(rt: HostRuntime) {
     }
 }
 
-// Each error, and its words.
+// Each error, and its text.
 const WORDS: [(RunError, &str); 4] = [
     (RunError::Read, "the input can't be read"),
     (RunError::Write, "the output can't be written"),

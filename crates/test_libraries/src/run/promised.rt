@@ -1,5 +1,5 @@
-//! The functions of `csv_promises`, each called on a file of two records: no clause says that they
-//! return what they speak of.
+//! The functions of `csv_promises`, each called on a file of two records. No clause states that
+//! they return `Some`.
 
 use crate::support::assert_bytes;
 use comfy_run::run::MemorySink;
@@ -17,7 +17,7 @@ use std::process::Abort;
 
 const FILE: &str = "name,days\noats,3\n";
 
-// A column of numbers stands at the right.
+// A column of numbers is right-aligned.
 const DRAWN: &str = "\
 +------+------+
 | name | days |
@@ -26,7 +26,7 @@ const DRAWN: &str = "\
 +------+------+
 ";
 
-// In a terminal the header is bold: sequences stand round each piece, with its paddings.
+// In a terminal the header is bold: sequences surround each piece, with its paddings.
 const DRAWN_IN_A_TERMINAL: &str = "\
 +------+------+
 |\u{1b}[1m name \u{1b}[0m|\u{1b}[1m days \u{1b}[0m|
@@ -41,7 +41,7 @@ const MARKDOWN: &str = "\
 | oats |    3 |
 ";
 
-// No width is kept to, in a terminal too.
+// There is no width, also in a terminal.
 const WORDS: [&str; 5] = ["csvtable", "-s", "ascii", "-w", "0"];
 
 const TERMINAL: OutputContext<'static> = OutputContext {
@@ -50,7 +50,7 @@ const TERMINAL: OutputContext<'static> = OutputContext {
     no_color: None,
 };
 
-// Compares the records of the file, and what is written of them.
+// Compares the records of the file, and their output.
 fn assert_written(rt: &impl Abort, written: Option<(Records, MemorySink)>) {
     let (records, sink) = written.expect(rt, "a drawing");
     assert!(rt; records.rows().len() == 2);
@@ -116,7 +116,7 @@ fn promised_widths_are_those_of_the_program(rt: HostRuntime) {
     assert!(rt; output_within(rt.alloc(), &filled, TERMINAL, input, 1000).is_some());
 }
 
-// Whether there is a promise on the fields that are drawn for these words.
+// True if `output_with_all_fields` returns a drawing for these words.
 fn is_promised(rt: &impl Alloc<A = Global>, words: &[&str]) -> bool {
     output_with_all_fields(rt.alloc(), words, TERMINAL, FILE.as_bytes(), 400).is_some()
 }

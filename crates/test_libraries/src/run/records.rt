@@ -1,4 +1,4 @@
-//! The words of `csvtable`'s errors, delimiters that its words can't ask for, and encodings.
+//! The texts of `csvtable`'s errors, delimiters that its options can't set, and encodings.
 
 use super::large::options;
 use csv_command::{CsvError, Options};
@@ -41,7 +41,7 @@ fn refusals_have_their_words(rt: HostRuntime) {
     );
 }
 
-// What reads records between this byte.
+// Options that read records with this byte as delimiter.
 fn between(alloc: Global, delimiter: u8) -> Options {
     let mut options = options(alloc, None, false);
     options.input.delimiter = Delimiter::Byte(delimiter);
@@ -67,7 +67,8 @@ fn delimiters_that_are_not_ascii(rt: HostRuntime) {
     assert!(rt; whole.rows().first_rows(1).len() == 1);
 }
 
-// A row for each record, and numbers at the right; the columns stand where they were asked for.
+// There is a row for each record, and numbers are right-aligned. The columns have the requested
+// order.
 #[test]
 fn records_become_a_table(rt: HostRuntime) {
     let options = between(rt.alloc(), b',');
@@ -85,7 +86,7 @@ fn records_become_a_table(rt: HostRuntime) {
     assert!(rt; drawing.contains(rows));
 }
 
-// What reads an input in this encoding.
+// Options that read an input in this encoding.
 fn encoded(alloc: Global, encoding: Option<Encoding>) -> InputOptions {
     let mut input = options(alloc, None, false).input;
     input.encoding = encoding;

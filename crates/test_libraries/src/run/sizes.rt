@@ -1,4 +1,4 @@
-//! Inputs just above sizes at which a program might give up: no clause says that it doesn't.
+//! Inputs just above sizes at which a program might give up. No clause states that it doesn't.
 
 use super::large::options;
 use comfy_run::run::{FromReader, ToWriter};
@@ -24,7 +24,7 @@ fn repeated(
     Ok(text)
 }
 
-// What `draw` draws of an input.
+// Compares the output of `draw` for an input.
 fn assert_drawn(
     rt: &(impl Abort + Alloc<A = Global>),
     input: &str,
@@ -38,7 +38,7 @@ fn assert_drawn(
     assert_eq!(rt; bytes.as_slice(), wanted.as_bytes());
 }
 
-// Dates and numbers in 100,001 rows, which aren't broken where a width is kept.
+// Dates and numbers in 100,001 rows, which aren't broken under a width.
 #[test]
 fn a_hundred_thousand_rows_keep_to_a_width(rt: HostRuntime) {
     let count = 100_001;
@@ -60,7 +60,7 @@ fn a_hundred_thousand_rows_keep_to_a_width(rt: HostRuntime) {
     assert_drawn(&rt, input.as_str(), &options, wanted.as_str());
 }
 
-// A text of a message above 4 kB.
+// A text of a message with more than 4 kB.
 #[test]
 fn a_long_text_is_shown(rt: HostRuntime) {
     let text = repeated(rt.alloc(), "", "name ", 1000, "").expect(&rt, "memory");

@@ -1,4 +1,4 @@
-//! Devices over readers and writers, some of which fail, and what a run leaves then.
+//! Devices over readers and writers, some of which fail, and the state after such a run.
 
 use super::program::{README, SMALL};
 use crate::support::{README_DRAWN, assert_bytes, assert_given, sink_of};
@@ -21,7 +21,7 @@ pub const PLAIN: Settings = Settings {
 
 const INPUT: &[u8] = b"a\tb\nc\td\n";
 
-// Runs on a source, and compares how that ends and what is written.
+// Runs on a source, and compares the end of the run and its output.
 fn assert_run_from<R: Source>(
     rt: &(impl Abort + Alloc<A = Global>),
     source: &mut R,
@@ -33,13 +33,13 @@ fn assert_run_from<R: Source>(
     assert_bytes(rt, sink.bytes(), output);
 }
 
-// Runs on a source that fails: nothing is written, and the source fails from then on.
+// Runs on a source that fails. Nothing is written, and the source fails from then on.
 fn assert_unread<R: Source>(rt: &(impl Abort + Alloc<A = Global>), source: &mut R) {
     assert_run_from(rt, source, &Err(RunError::Read), "");
     assert!(rt; source.read(&mut [0u8; 4]).is_err());
 }
 
-// Runs on the small input, and compares how that ends.
+// Runs on the small input, and compares the end of the run.
 fn assert_run_into<W: Sink>(
     rt: &(impl Abort + Alloc<A = Global>),
     sink: &mut W,
@@ -90,7 +90,7 @@ fn a_source_in_memory_fails_at_each_read(rt: HostRuntime) {
     );
 }
 
-// The room of a sink, the call at which it fails, how a run into it ends, and what it has then.
+// The room of a sink, the call at which it fails, the end of a run into it, and the bytes in it.
 const SINKS: [(usize, u64, Result<(), RunError>, &str); 3] = [
     (4096, 1, Err(RunError::Write), ""),
     // the drawing is one write
@@ -140,7 +140,7 @@ fn slow_source(fails_at: u64) -> FromReader<SlowReader> {
     })
 }
 
-// One call for each of the eight bytes, and one that reads the end.
+// There is one call for each of the eight bytes, and one that reads the end.
 #[test]
 fn a_source_keeps_that_its_reader_failed(rt: HostRuntime) {
     for call in 1..10 {
@@ -155,8 +155,7 @@ fn readers_are_read_to_their_end(rt: HostRuntime) {
     assert_run_from(&rt, &mut FromReader::new(INPUT), &Ok(()), SMALL);
 }
 
-// A writer that takes three bytes at a call, and whose call `fails_at` is an error or takes
-// nothing.
+// A writer that takes three bytes at a call. The call `fails_at` is an error or takes nothing.
 #[derive(Drop)]
 struct SlowWriter {
     bytes: Vec<u8>,
@@ -191,7 +190,7 @@ fn slow_writer(alloc: Global, fails_at: u64, takes_nothing: bool) -> SlowWriter 
     }
 }
 
-// 50 bytes by three are 17 calls.
+// 50 bytes in threes are 17 calls.
 #[test]
 fn a_sink_keeps_that_its_writer_failed(rt: HostRuntime) {
     for takes_nothing in [false, true] {

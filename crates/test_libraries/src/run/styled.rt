@@ -12,7 +12,7 @@ use std::process::Abort;
 
 const TEXT: &str = "name,days\noats and barley,3\nrye,14.25\n";
 
-// A column with these paddings and widths.
+// A column with these paddings, least width and greatest width.
 fn column(padding: (u16, u16), least: Option<u16>, greatest: Option<u16>) -> ColumnSettings {
     ColumnSettings {
         padding,
@@ -120,7 +120,7 @@ fn columns_have_least_widths(rt: HostRuntime) {
     );
 }
 
-// The greatest width is as great as the least one.
+// The greatest width is the same as the least one.
 #[test]
 fn a_width_is_kept(rt: HostRuntime) {
     assert_drawn(
@@ -143,7 +143,7 @@ fn a_width_is_kept(rt: HostRuntime) {
     );
 }
 
-// The numbers with spaces are wider than four.
+// The numbers with their spaces are wider than four terminal columns.
 #[test]
 fn points_are_not_in_wrapped_texts(rt: HostRuntime) {
     assert_drawn(
@@ -237,8 +237,8 @@ fn add_row(
         .expect(rt, "memory");
 }
 
-// Red is colour 9 of 256, and 4 is the sequence for an underline. The header has the first
-// settings, and the number of a row has none.
+// Red is colour 9 of 256, and 4 is the sequence for an underline. The first settings are those of
+// the header, and the number of a row has none.
 #[test]
 fn cells_have_colours(rt: HostRuntime) {
     let mut rows = Vec::new(rt.alloc());
@@ -277,7 +277,7 @@ fn cells_have_colours(rt: HostRuntime) {
     );
 }
 
-// A row of a greatest height is cut, the other one isn't. A cell has its own side.
+// A row with a greatest height is cut, and the other one isn't. A cell has its own alignment.
 #[test]
 fn rows_have_greatest_heights(rt: HostRuntime) {
     let mut rows = Vec::new(rt.alloc());

@@ -1,4 +1,4 @@
-//! Calls that return a number, or whether something is so.
+//! Calls that return a number or a truth value.
 
 use crate::support::table_of;
 use comfy_table::presets::ASCII_FULL;
@@ -9,13 +9,14 @@ use comfy_table::{Column, ContentArrangement, IntoRow, Table, Terminal, Width};
 use std::alloc::{Alloc, Global};
 use std::process::Abort;
 
-// The column at this position, wrapped at this content width, has lines of this many columns.
+// Fails unless the column at this position, wrapped at this content width, has a longest line of
+// this width.
 fn assert_longest(rt: &impl Abort, table: &Table, position: usize, width: u16, wanted: usize) {
     let longest = longest_line(table, position, width).expect(rt, "memory");
     assert!(rt; longest == wanted);
 }
 
-// The two words have two spaces between them, and one of these ends the first line.
+// The two words are separated by two spaces, one of which ends the first line.
 #[test]
 fn longest_lines_are_those_of_wrapped_cells(rt: HostRuntime) {
     let mut table = table_of(&rt, ["abcd  efghi"]);
@@ -28,7 +29,7 @@ fn longest_lines_are_those_of_wrapped_cells(rt: HostRuntime) {
     assert_longest(&rt, &table, 1, 10, 0);
 }
 
-// After this header the table has this many columns.
+// Fails unless the table has this many columns after this header.
 fn assert_columns_after<T: IntoRow>(rt: &impl Abort, table: &mut Table, header: T, wanted: usize) {
     table.try_set_header(header).expect(rt, "memory");
     assert!(rt; table.column_count().expect(rt, "memory") == wanted);
@@ -58,7 +59,7 @@ fn border_characters_are_counted(rt: HostRuntime) {
     assert!(rt; count_border_columns(&table, 0) == 2);
 }
 
-// At most 100 percent are taken, of the 20 terminal columns between the borders.
+// At most 100 percent of the 20 terminal columns between the borders are taken.
 #[test]
 fn percentages_need_a_known_width(rt: HostRuntime) {
     let mut table = table_of(&rt, ["a"]);
@@ -68,7 +69,7 @@ fn percentages_need_a_known_width(rt: HostRuntime) {
     assert!(rt; absolute_value_from_width(&table, &width, 1) == Some(20));
 }
 
-// What a table answers about its terminal.
+// Compares a table's facts about its terminal.
 fn assert_terminal(
     rt: &impl Abort,
     table: &Table,
@@ -81,7 +82,8 @@ fn assert_terminal(
     assert!(rt; table.should_style() == should_style);
 }
 
-// A table whose standard output is a terminal of 12 columns, and whose standard error is none.
+// A table whose standard output is a terminal of 12 columns, and whose standard error isn't a
+// terminal.
 fn table_on_stdout(rt: &impl Alloc<A = Global>) -> Table {
     let mut table = Table::new(rt.alloc());
     table.set_terminal(Terminal {

@@ -1,4 +1,4 @@
-//! Tables drawn in parts: all at the widths of the whole table, each with header and borders.
+//! Tables that are drawn in parts, each at the widths of the whole table, with header and borders.
 
 use crate::support::{assert_given, table_of};
 use comfy_table::for_records::{LinesCell, RowCell, TextCell};
@@ -6,7 +6,7 @@ use comfy_table::{ColumnConstraint, ContentArrangement, PartEnds, Row, RowWriter
 use std::alloc::{Alloc, Global};
 use std::process::Abort;
 
-// 17 terminal columns less three border characters and four spaces leave five for each text.
+// Of 17 terminal columns, three border characters and four spaces leave five for each text.
 fn fill(rt: &(impl Abort + Alloc<A = Global>), table: &mut Table) {
     table.try_set_header(["Day", "Count"]).expect(rt, "memory");
     table
@@ -132,7 +132,7 @@ fn rows_beyond_the_last_are_none(rt: HostRuntime) {
     assert_part(&rt, &table, 1, 0, HEADER_ALONE);
 }
 
-// The parts of a table, one after another, follow what a text has.
+// The parts of a table, one after another, are appended to a text.
 fn two_parts(rt: &impl Alloc<A = Global>, table: &Table) -> comfy_table::Result<String> {
     let mut text = String::from_str(rt.alloc(), "Days\n")?;
     let arranged = table.arranged()?;
@@ -188,7 +188,7 @@ fn height_of(rt: &(impl Abort + Alloc<A = Global>), writer: &RowWriter<'_>, row:
         .expect(rt, "memory")
 }
 
-// The highest row is drawn in so many lines.
+// Fails unless the highest row is drawn in this many lines.
 fn assert_greatest_height(rt: &(impl Abort + Alloc<A = Global>), table: &Table, lines: usize) {
     let arranged = table.arranged().expect(rt, "memory");
     let writer = arranged.row_writer().expect(rt, "memory");
@@ -246,7 +246,7 @@ fn rows_one_after_another_make_the_whole(rt: HostRuntime) {
     );
 }
 
-// A row of texts that are lent, below others.
+// Draws a row of lent texts below others.
 fn lent_row(rt: &impl Alloc<A = Global>, table: &Table) -> comfy_table::Result<String> {
     let mut cells = Vec::new(rt.alloc());
     if let Some(day) = TextCell::of_line("4 May", None, None) {

@@ -7,8 +7,8 @@ use comfy_table::{Cell, Color, Column, Row, Table};
 use std::alloc::{Alloc, Global};
 use std::process::Abort;
 
-// The pieces of a row, each in a column of three terminal columns and two paddings, have room for
-// their bytes alone.
+// Fails unless the pieces of a row have room only for their bytes. Each is in a column of three
+// terminal columns and two paddings.
 fn assert_rooms(rt: &(impl Abort + Alloc<A = Global>), table: &Table, row: &Row, wanted: &[usize]) {
     let column = Column::new(0);
     let info = || ColumnDisplayInfo::new(&column, 3);
@@ -31,8 +31,8 @@ fn pieces_of_texts_have_room_for_their_bytes(rt: HostRuntime) {
     assert_rooms(&rt, &table, &row, &[5, 8, 6, 5]);
 }
 
-// The sequence of red has nine bytes, and the one that ends it five. A column without a cell has a
-// piece of spaces.
+// The sequence for red has nine bytes, and the one that ends it has five. A column without a cell
+// has a piece of spaces.
 #[test]
 fn styled_pieces_have_room_for_their_sequences(rt: HostRuntime) {
     let mut table = Table::new(rt.alloc());
@@ -42,7 +42,7 @@ fn styled_pieces_have_room_for_their_sequences(rt: HostRuntime) {
     assert_rooms(&rt, &table, &row, &[19, 5, 5, 5]);
 }
 
-// The indicator has three bytes, as each of the letters.
+// The indicator has three bytes, and so has each letter.
 #[test]
 fn cut_pieces_have_room_for_their_indicators(rt: HostRuntime) {
     let table = Table::new(rt.alloc());

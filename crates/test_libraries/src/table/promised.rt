@@ -1,5 +1,5 @@
-//! The functions of `promises`, each called on a table of two rows: no clause says that they return
-//! what they speak of.
+//! The functions of `promises`, each called on a table of two rows. No clause states that they
+//! succeed.
 
 use crate::support::{assert_given, assert_lines, row_of};
 use comfy_table::{ArrangedTable, ContentArrangement, Lines, Table};
@@ -30,7 +30,7 @@ const WITH_ONE_MORE: &str = "\
 | 2 May | three       |
 +-------+-------------+";
 
-// 17 terminal columns less three border characters and four spaces leave five for each text.
+// Of 17 terminal columns, three border characters and four spaces leave five for each text.
 const IN_17: &str = "\
 +-------+-------+
 | Day   | Count |
@@ -48,12 +48,12 @@ fn days(rt: &(impl Abort + Alloc<A = Global>)) -> Table {
     table
 }
 
-// Compares the lines that a call gives with those of a text.
+// Compares the lines that a call returns with those of a text.
 fn assert_drawn(rt: &impl Abort, lines: comfy_table::Result<Lines>, wanted: &str) {
     assert_lines(rt, lines.expect(rt, "memory"), wanted);
 }
 
-// The table is arranged in 17 terminal columns.
+// Fails unless the table is arranged in 17 terminal columns.
 fn assert_arranged(rt: &impl Abort, arranged: comfy_table::Result<(ArrangedTable<&Table>, Lines)>) {
     let (arranged, lines) = arranged.expect(rt, "memory");
     for info in arranged.infos() {

@@ -1,4 +1,4 @@
-//! A row that always returns that memory was refused, and what stands in a table after it.
+//! A row that always returns that memory was refused, and the state of a table after it.
 
 ghost use Rattle.comfy_parts.specs.CellValue.{plain_row};
 ghost use Rattle.std.specs.Prelude.{[]};
@@ -43,7 +43,7 @@ fn rows_before_a_refused_one_stay(rt: HostRuntime) {
     }
 }
 
-// So it is where a predicate is asked.
+// The same with a predicate.
 #[test]
 fn rows_before_a_refused_one_stay_on_a_condition(rt: HostRuntime) {
     for position in 0..3 {

@@ -1,5 +1,5 @@
-//! Several rows at once, and rows on a condition: that the calls succeed, how often a predicate is
-//! asked, and with which number.
+//! Several rows at once, and rows on a condition. The calls succeed, and the tests count the calls
+//! of a predicate, and compare its argument.
 
 use crate::support::{assert_drawn, row_of};
 use comfy_table::{Cell, IntoRow, Items, Result, Row, Table, row};
@@ -22,7 +22,7 @@ fn two_rows(rt: &(impl Abort + Alloc<A = Global>)) -> Vec<Row> {
     rows
 }
 
-// A new table that these rows are added to has two rows.
+// Fails unless a new table has two rows after these are added.
 fn assert_added<I>(rt: &(impl Abort + Alloc<A = Global>), rows: I)
 where
     I: Items,
@@ -65,8 +65,8 @@ const BIKES: &str = "\
 | 18   | x    | 1.5  |
 +------+------+------+";
 
-// What a predicate answers that is asked with a number of rows. It keeps that number, and a greater
-// one where it is asked again.
+// The answer of a predicate that is called with a number of rows. It keeps this number, or a
+// greater one if it is called again.
 fn answer(asked: &cell::Cell<Option<usize>>, rows: usize, yes: bool) -> bool {
     asked.set(Some(asked.get().map_or(rows, |_| usize::MAX)));
     yes
@@ -79,7 +79,7 @@ fn table_of_two(rt: &(impl Abort + Alloc<A = Global>)) -> Table {
     table
 }
 
-// Offers a row to a table of two rows. The predicate is asked once, with 2.
+// Offers a row to a table of two rows. The predicate is called once, with 2.
 fn offer_row(rt: &(impl Abort + Alloc<A = Global>), yes: bool, wanted: &str) {
     let asked = cell::Cell::new(None);
     let mut table = table_of_two(rt);

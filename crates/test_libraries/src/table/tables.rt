@@ -1,5 +1,4 @@
-//! Tables: the calls that `lines` makes, cells of a column, parts that are lent, and the widest
-//! paddings.
+//! Tables: the calls behind `lines`, cells of a column, lent parts, and the widest paddings.
 
 use crate::support::{
     README_DRAWN, assert_drawn, assert_given, assert_lines, assert_number, row_of, table_of,
@@ -40,8 +39,8 @@ fn each_step_of_a_drawing_succeeds(rt: HostRuntime) {
     assert_lines(&rt, lines, README_DRAWN.trim_end());
 }
 
-// The header and the first row have a line, the second row has three. Another row has two there,
-// and its fourth cell lies behind the last column.
+// The header and the first row have one line, and the second row has three. Another row has two
+// there, and its fourth cell is after the last column.
 fn assert_formatted(rt: &(impl Abort + Alloc<A = Global>), table: &Table) {
     let infos = arrange_content(table).expect(rt, "memory");
     let content = format_content(table, infos.as_slice()).expect(rt, "memory");
@@ -54,7 +53,7 @@ fn assert_formatted(rt: &(impl Abort + Alloc<A = Global>), table: &Table) {
     assert_number(rt, lines.len(), 2);
 }
 
-// The second column's cells in the rows, of which the second row has none.
+// The second column's cells in the rows. The second row has none.
 const SECOND_CELLS: [Option<&str>; 3] = [Some("Second"), None, Some("Fifth")];
 
 #[test]
@@ -81,7 +80,7 @@ fn assert_cells(rt: &impl Abort, mut cells: ColumnCellIter<'_>) {
     assert!(rt; cells.next().is_none());
 }
 
-// An item, which is a cell of this content, or none.
+// Fails unless an item is a cell with this content, or no cell.
 fn assert_cell(rt: &impl Abort, item: Option<Option<&Cell>>, content: Option<&str>) {
     match (item, content) {
         (Some(Some(cell)), Some(text)) => assert_given(rt, cell.content(), text),
@@ -90,7 +89,7 @@ fn assert_cell(rt: &impl Abort, item: Option<Option<&Cell>>, content: Option<&st
     }
 }
 
-// Sets the height of each row, and the left padding of the first column alone.
+// Sets the height of each row, and only the left padding of the first column.
 fn set_parts(table: &mut Table) {
     for row in table.row_iter_mut() {
         row.max_height(1);
@@ -126,7 +125,7 @@ fn each_row_and_column_is_borrowed_mutably(rt: HostRuntime) {
     assert_drawn(&rt, &table, "+-+--+\n|…|cd|\n+-+--+");
 }
 
-// Puts a column in the place of another, which it returns.
+// Replaces a column, and returns the old one.
 fn replace_column(rt: &impl Abort, table: &mut Table, position: usize, column: Column) -> Column {
     let place = table.column_mut(position).expect(rt, "a column");
     mem::replace(place, column)
@@ -174,7 +173,7 @@ fn pad_widely(table: &mut Table) {
     }
 }
 
-// Each drawn line has so many characters.
+// Fails unless each drawn line has this many characters.
 fn assert_counts(rt: &impl Abort, table: &Table, count: usize) {
     for line in table.lines().expect(rt, "memory") {
         assert_number(rt, line.chars().count(), count);

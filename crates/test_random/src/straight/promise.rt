@@ -1,5 +1,4 @@
-//! Whether the characters of a table fit its columns, so that its edges are promised to be
-//! straight.
+//! Characters that fit their columns, so that the edges of their table are promised to be straight.
 
 use comfy_table::utils::arrangement::arrange_content;
 use comfy_table::utils::formatting::content_split::{
@@ -8,7 +7,7 @@ use comfy_table::utils::formatting::content_split::{
 use comfy_table::{Cell, Result, Row, Table};
 use std::alloc::Global;
 
-/// Whether each character that is visible of a text in a shown column fits the column.
+/// True if each visible character of a text in a shown column fits the column.
 pub fn characters_fit_columns(alloc: Global, table: &Table) -> Result<bool> {
     let infos = arrange_content(table)?;
     let mut do_fit = true;

@@ -1,4 +1,4 @@
-//! Random rows, columns and styles of tables of many scripts.
+//! Random rows, columns and styles for tables of many scripts.
 
 use crate::scripts::{Words, text};
 use crate::settings::alignment;
@@ -11,8 +11,7 @@ use rand::RngExt;
 use rand_pcg::Pcg32;
 use std::alloc::Global;
 
-// the first leaves columns apart where no line stands between them, as the second does; the last
-// leaves them together
+// the first two leave columns apart if no line is between them, and the last one doesn't
 const PADDINGS: [(u16, u16); 4] = [(1, 0), (0, 2), (1, 1), (0, 0)];
 
 const CONSTRAINTS: [ColumnConstraint; 4] = [
@@ -22,14 +21,14 @@ const CONSTRAINTS: [ColumnConstraint; 4] = [
     ColumnConstraint::UpperBoundary(Width::Fixed(9)),
 ];
 
-/// The terminal columns that are visible of a line.
+/// The visible width of a line, in terminal columns.
 pub fn visible_width(alloc: Global, line: &str) -> Result<usize> {
     let visible = visible_text(alloc, line)?;
     Ok(measure_text_width(visible.as_str()))
 }
 
-/// Which words a table has: all where it is as wide as its texts, and else often narrow ones, for
-/// narrow columns.
+/// The kind of words in a table: any words if it is as wide as its texts, and otherwise often
+/// narrow ones, for narrow columns.
 pub fn words(rng: &mut Pcg32, is_shown_whole: bool) -> Words {
     let have_sequences = once_in(rng, 3);
     Words {
@@ -39,12 +38,12 @@ pub fn words(rng: &mut Pcg32, is_shown_whole: bool) -> Words {
     }
 }
 
-/// Whether the next row is to be cut, which none is in a table that is as wide as its texts.
+/// True if the next row is cut. None is in a table that is as wide as its texts.
 pub fn is_cut(rng: &mut Pcg32, is_shown_whole: bool) -> bool {
     !is_shown_whole && once_in(rng, 2)
 }
 
-/// A preset, now and then with modifiers.
+/// A preset, sometimes with modifiers.
 pub fn style(rng: &mut Pcg32) -> TableStyle {
     let (_, mut style) = one_of(rng, &ALL, ("UTF8_FULL", UTF8_FULL));
     if once_in(rng, 3) {
@@ -56,7 +55,7 @@ pub fn style(rng: &mut Pcg32) -> TableStyle {
     style
 }
 
-/// A row of up to three cells, of at most three lines where it is to be cut.
+/// A row of up to three cells, which has at most three lines if it is cut.
 pub fn row(alloc: Global, rng: &mut Pcg32, words: Words, is_cut: bool) -> Result<Row> {
     let mut row = Row::new(alloc);
     add_cells(alloc, rng, &mut row, words)?;
@@ -87,8 +86,8 @@ fn with_looks(rng: &mut Pcg32, cell: Cell) -> Cell {
     }
 }
 
-/// Gives all columns the same padding, which keeps them apart where no line stands between them,
-/// and some a constraint.
+/// Gives all columns the same padding, which keeps them apart if no line is between them, and some
+/// of them a constraint.
 pub fn set_columns(
     rng: &mut Pcg32,
     columns: &mut [Column],
@@ -112,7 +111,7 @@ fn padding(rng: &mut Pcg32, has_lines_between: bool) -> (u16, u16) {
     }
 }
 
-// where the table is as wide as its texts a column may only be hidden
+// if the table is as wide as its texts, the only constraint of a column is that it is hidden
 fn constraint(rng: &mut Pcg32, is_shown_whole: bool) -> ColumnConstraint {
     let constraints = if is_shown_whole {
         &CONSTRAINTS[..1]

@@ -6,7 +6,7 @@ use Rattle.csv_tables.specs.Contents.{greatest_at}
 use Rattle.comfy_c.specs.CellCalls.{counts_of, rows_with}
 use Rattle.comfy_c.proofs.cells_lent.longest_in_rows.Given as goal
 
--- the longest so far, and that of the rows that are left
+-- the longest line so far, and of the rows that are left
 abbrev pub invariant-loop-row : goal.invariant-loop-row
 invariant-loop-row l =
     record {

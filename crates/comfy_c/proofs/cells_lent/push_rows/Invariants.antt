@@ -5,7 +5,7 @@ use Rattle.csv_records.specs.CutLists.{total}
 use Rattle.comfy_c.specs.CellCalls.{counts_of, rows_with}
 use Rattle.comfy_c.proofs.cells_lent.push_rows.Given as goal
 
--- the text so far, and that of the rows that are left
+-- the text so far, and the text of the rows that are left
 abbrev pub invariant-loop-row : goal.invariant-loop-row
 invariant-loop-row l =
     record {

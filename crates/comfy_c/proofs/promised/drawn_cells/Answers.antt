@@ -6,7 +6,7 @@ use Rattle.promises.specs.Promises.{KeepsPromises}
 use Rattle.comfy_c.specs.CellCalls.{AreWritten, IsInForm}
 use Rattle.comfy_c.proofs.promised.drawn_cells.Goals as goal
 
--- the lines, where they are asked for
+-- the lines, if they are requested
 lines_of : ((table : TableValue) (lines : List Text) → IsTableDrawing table lines → KeepsPromises table lines) → (form : ℕ) (table : TableValue) (drawing : Text) → form ≢ 2 → IsInForm form table drawing → (lines : List Text) × KeepsPromises table lines × AreWritten form lines drawing
 lines_of law form table drawing asked (inl told) = (told.0, law table told.0 told.1, told.2)
 lines_of law form table drawing asked (inr told) = absurd (asked told.0)

@@ -7,7 +7,7 @@ use Rattle.comfy_parts.specs.Text.{Text}
 use Rattle.csv_command.specs.Mistakes.{behind_letter}
 use Rattle.csv_command.proofs.mistakes.in_one_word.Goals as goal
 
--- what the definition says of a word, by whether it has `=` and by what stands behind a hyphen
+-- the value of the definition, by whether the word has `=`, and by the text after its hyphen
 abbrev said : Text → Bool → Option Text → Option (Text × Text)
 said word has_equals rest =
     if has_equals

@@ -10,7 +10,7 @@ use Rattle.csv_records.specs.declared.delimiter.Delimiter.TheVariants.{Spaces}
 use Rattle.csv_records.proofs.ReadTextLemmas.{plain_parted, plain_quotes}
 use Rattle.csv_records.proofs.reading.read_first_records.Goals as goal
 
--- the bytes before the last ones, and these
+-- a text is its prefix up to a place and the suffix from there
 cut : (front rest : Text) (at : ℕ) → at ≤ length rest → front ++ rest ≡ take (length (front ++ rest) - (length rest - at)) (front ++ rest) ++ drop at rest
 cut front rest at within =
     let place : length (front ++ rest) - (length rest - at) ≡ length front + at = omega (arith, length-append front rest, within) in
@@ -19,7 +19,7 @@ cut front rest at within =
 cut_end : (text rest : Text) (at : ℕ) → at ≤ length rest → EndsIn text rest → text ≡ take (length text - (length rest - at)) text ++ drop at rest
 cut_end text rest at within (front, is_text) = rw is_text (cut front rest at within)
 
--- a quote stands within the bytes
+-- the unclosed quote is within the bytes
 within : (delimiter : ℕ) (text rest : Text) (at : ℕ) → IsUnclosed delimiter text (drop at rest) → at ≤ length rest
 within delimiter text rest at is = omega (arith, ap length is.quote, length-drop at rest)
 

@@ -3,7 +3,7 @@ use Rattle.csv_tables.specs.Pieces.{rest_of}
 use Rattle.csv_tables.specs.declared.drawn.Remaining.{Remaining}
 use Rattle.csv_tables.proofs.drawn.piece_of.Given as goal
 
--- how many records are left, and one more where the drawing isn't at its end
+-- the number of records that are left, plus one if the drawing isn't at its end
 abbrev pub left_of : Option Remaining → ℕ
 left_of None = 0
 left_of (Some left) = (length left.arranged.contents.rows.selected.rows - left.place) + 1

@@ -5,7 +5,7 @@ use Rattle.comfy_table.specs.TableValue.{with_other_rows}
 use Rattle.csv_tables.specs.Contents.{expanded_from}
 use Rattle.csv_tables.proofs.drawn.push_expanded.Given as goal
 
--- the text so far, and that of the records that are left
+-- the text so far and the text of the records that are left
 abbrev pub invariant-loop-fields : goal.invariant-loop-fields
 invariant-loop-fields l =
     (string_bytes l.text ++ expanded_from l.arranged.contents.rows l.arranged.contents.table l.arranged.infos l.at l.fields-iterator

@@ -4,7 +4,7 @@ use Rattle.csv_tables.specs.Contents.{greatest_at, rows_from}
 use Rattle.csv_tables.specs.NoWrap.{cell_need, fields_need}
 use Rattle.csv_tables.proofs.needs.fields_need.Given as goal
 
--- what the rows so far need, and those that are left
+-- the need of the rows so far, and of the rows that are left
 abbrev pub invariant-loop-place : goal.invariant-loop-place
 invariant-loop-place l =
     max l.need (greatest_at l.contents.table (cell_need l.is_nowrap) (rows_from l.rows (enumerate_count l.place-iterator) (enumerate_source l.place-iterator)) l.at)

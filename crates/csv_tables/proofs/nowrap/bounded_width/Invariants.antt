@@ -5,7 +5,7 @@ use Rattle.csv_tables.specs.Limits.{limits_at, taken}
 use Rattle.csv_tables.specs.NoWrap.{Wanted, by_columns, min_width, width_at_level}
 use Rattle.csv_tables.proofs.nowrap.bounded_width.Given as goal
 
--- the borders, with what the columns so far take
+-- the borders, and the widths of the columns so far
 abbrev pub invariant-loop-at : goal.invariant-loop-at
 invariant-loop-at l =
     (wanted : Wanted) → l.fn.kept ≡ by_columns (min_width wanted l.contents.table) l.contents.table

@@ -8,7 +8,7 @@ use Rattle.csv_tables.specs.NoWrap.{Wanted, by_columns, least_width, min_width, 
 use Rattle.csv_tables.specs.declared.needs.Words.{Words}
 use Rattle.csv_tables.proofs.nowrap.keep_within.Goals as goal
 
--- what is wanted of columns
+-- the columns and words that are kept whole
 abbrev made : List Bool → Words → Wanted
 made nowrap words = record { nowrap = nowrap; words = words }
 

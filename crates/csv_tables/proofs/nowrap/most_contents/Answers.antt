@@ -6,7 +6,7 @@ use Rattle.csv_tables.specs.NoWrap.{Wanted, by_columns, min_width, with_words}
 use Rattle.csv_tables.specs.declared.needs.Words.TheVariants.{OfFields, OfNames}
 use Rattle.csv_tables.proofs.nowrap.most_contents.Goals as goal
 
--- the words that are kept, by three tests
+-- the words that are kept whole, by three tests
 abbrev by_tests : Wanted → Bool → Bool → Bool → Wanted
 by_tests wanted all fields names =
     if all then wanted else if fields then with_words OfFields wanted else if names then with_words OfNames wanted else wanted

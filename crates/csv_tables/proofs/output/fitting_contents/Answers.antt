@@ -16,7 +16,7 @@ use Rattle.csv_tables.specs.declared.rows.RecordRows.{RecordRows}
 use Rattle.csv_tables.proofs.output.fitting_contents.Goals as goal
 use Rattle.csv_tables.proofs.output.fitting_contents.Goals.{else-look, then-has_room-via-else-has_room+then-not-is_aligned, then-has_room-via-then-has_room, then-look}
 
--- rows with these settings, whose decimal points are below each other or not
+-- rows with these settings, with aligned decimal points or without
 abbrev rows_by : SelectedValue → SettingsValue → Look → Bool → RecordRows
 rows_by selected settings look is_aligned = record { selected = selected; settings = settings; look = look; is_expanded = false; is_aligned = is_aligned }
 

@@ -10,11 +10,11 @@ use Rattle.csv_tables.specs.Contents.{made_by, pairs_by, rows_from}
 use Rattle.csv_tables.specs.declared.rows.RecordRows.{RecordRows}
 use Rattle.csv_tables.proofs.separators.is_any_tall.Goals as goal
 
--- whether one of these rows has more than one line
+-- true if one of these rows has more than one line
 abbrev any : ArrangedValue → List RowValue → Bool
 any table rows = list_any (nat_lt 1) (map (row_height table.table table.infos) rows)
 
--- the rows from that of a record on, if records aren't expanded
+-- the rows of the records from a place on, if records aren't expanded
 from_one : (table : ArrangedValue) (rows : RecordRows) → rows.is_expanded ≡ false → (at : ℕ) (fields : List Text) (left : List (List Text))
     → any table (rows_from rows at (fields ∷ left)) ≡ nat_lt 1 (row_height table.table table.infos (made_by rows at fields)) || any table (rows_from rows (at + 1) left)
 from_one table rows single at fields left =

@@ -14,7 +14,7 @@ use Rattle.example_proved.specs.Summary.{HasPlainName, heading, row_of}
 use Rattle.example_proved.specs.declared.summary.Measurement.{Measurement}
 use Rattle.example_proved.proofs.summary.summary.Goals as goal
 
--- a measurement has three cells
+-- the row of a measurement has three cells
 three_cells : (measurements : List Measurement) → HaveCells 3 (heading ∷ map row_of measurements)
 three_cells measurements =
     All-cons HasThree heading (map row_of measurements) (omega arith) (All-map HasThree row_of measurements (λ k default below. omega arith))
@@ -22,7 +22,7 @@ three_cells measurements =
     HasThree : RowValue → Type 0
     HasThree row = length row.cells ≤ 3
 
--- characters of one terminal column, where names are printable
+-- the characters take one terminal column each if names are printable
 narrow : ((text : Text) → is_printable_ascii text ≡ true → IsNarrowCell (plain_cell text)) → ((n : ℕ) → is_printable_ascii (decimal n) ≡ true)
     → (measurements : List Measurement) → All HasPlainName measurements → All IsNarrowRow (heading ∷ map row_of measurements)
 narrow of_text of_number measurements names =

@@ -4,7 +4,7 @@ use Rattle.csv.specs.Records.{Rising, last_end, partial_of}
 use Rattle.csv.proofs.RecordFacts.{cut-end, cut-more, last-append, rising-end, rising-last, rising-more}
 use Rattle.csv_records.proofs.fields.Fields.push_field.Goals as goal
 
--- more bytes leave what stood there
+-- more bytes leave the fields before them in place
 grown : (ends bytes more : List ℕ) → Rising 0 ends (length bytes) → Rising 0 ends (length (bytes ++ more))
 grown ends bytes more rising = rising-more 0 ends (length bytes) (length (bytes ++ more)) rising (omega (arith, length-append bytes more))
 

@@ -12,7 +12,7 @@ use Rattle.csv_tables.specs.Settings.{CellSettingsValue, dressed}
 use Rattle.csv_tables.specs.NoWrap.{cell_need}
 use Rattle.csv_tables.proofs.rows.RecordRows.cell_need.Goals as goal
 
--- settings change nothing that a cell needs
+-- settings don't change the need of a cell
 dressed_need : (is_nowrap : Bool) (table : TableValue) (set : CellSettingsValue) (cell : CellValue) → cell_need is_nowrap (measured_cell table (dressed (Some set) cell)) ≡ cell_need is_nowrap (measured_cell table cell)
 dressed_need true table set cell = refl
 dressed_need false table set cell = refl

@@ -5,7 +5,7 @@ use Rattle.csv_tables.specs.Contents.{greatest_at}
 use Rattle.csv_tables.specs.Drawn.{pairs_of}
 use Rattle.csv_tables.proofs.rows.RecordRows.longest_in_pairs.Given as goal
 
--- the longest so far, and those of the columns that are left
+-- the longest line so far, and of the columns that are left
 abbrev pub invariant-loop-column : goal.invariant-loop-column
 invariant-loop-column l =
     max l.longest (greatest_at l.table (cell_longest_line l.table l.info) (pairs_of l.self.look (drop l.column-index l.column-items) (unwrap_or l.self.selected.names []) l.fields) l.position)

@@ -10,7 +10,7 @@ use Rattle.comfy_table.specs.Parts.{IsArrangedTable, with_rows_alone}
 use Rattle.comfy_table.specs.TableValue.{TableValue}
 use Rattle.test_callers.proofs.uses.parts.push_page.Goals as goal
 
--- what holds of each line of a table holds of each line that is one of them
+-- a property of each line of a table is one of each line that is one of them
 carried : (P : Text → Type 0) (lines part : List Text) → All (Contains lines) part → All P lines → All P part
 carried P lines part own each = All-weaker (Contains lines) P (λ line inside. All-contains P lines line each inside) part own
 
