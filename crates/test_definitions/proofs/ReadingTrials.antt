@@ -69,7 +69,7 @@ none_found = refl
 -- ---- records with more fields than the first
 
 abbrev below_two : InputOptions
-below_two = record { encoding = None; skip = 2; delimiter = Auto; has_quotes = true }
+below_two = record { encoding = None; skip = 2; delimiter = Auto; has_header = true; has_quotes = true }
 
 -- the line of the first such record, also after quoted lines and empty ones, the number of the others, and whether
 -- these are all that follow
