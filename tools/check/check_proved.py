@@ -15,7 +15,7 @@
 - Each definition of specs/ and proofs/ is used, and each private function is called (tools/check/reach.py).
 - The first comment of each file in specs/ of a library ends with the source of its rules.
 - No line of src/ and specs/ has more than 100 characters, except `use` lines and `#[tactic(..)]`, which `rt fmt` doesn't break.
-- The crate of documented examples agrees with the doc comments (tools/make/doc_examples.py).
+- The crate of documented examples agrees with the doc comments, and each other example has a test (tools/make/doc_examples.py).
 - csvtable's man page and completions agree with its options (tools/make/manual.py).
 - Each place of the version has that of CHANGELOG.md.
 - The gallery and the pictures agree with the stored outputs (tools/make/gallery.py, pictures.py). Each link of a page leads to a file or a heading.

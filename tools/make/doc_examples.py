@@ -4,6 +4,9 @@
     tools/make/doc_examples.py            writes the source of the crate and its stored output
     tools/make/doc_examples.py --check    prints the files that differ from the comments, and ends with status 1 if one does
 
+The examples of devices, comfy_run, csv_records and csv_command are in tests that are written by hand, or are a `main`. The check
+looks for their lines in these files.
+
 An example is a fenced block without a language in a doc comment of comfy_parts or comfy_table. It becomes a function with the
 name of the item that has the comment. Each variable that an example uses without making it, such as `table`, becomes a parameter.
 A new table becomes one too, because a function that owns a table takes long to prove. Examples that print nothing are called
@@ -29,6 +32,9 @@ PARAMETERS = {
     "table": ("&mut Table", "table"),
     "column": ("&mut Column", "&mut Column::new(0)"),
 }
+# The crates whose examples are written by hand, and the files that have them.
+BY_HAND = ["devices", "comfy_run", "csv_records", "csv_command"]
+FILES_BY_HAND = ["test_libraries/src/run/doc_examples.rt", "ctable/src/main.rt", "csvtable/src/main.rt"]
 SPLIT = "comfy_table::utils::formatting::content_split"
 PATHS = {"Global": "std::alloc"} | {it: SPLIT for it in ("ColumnDisplayInfo", "characters_fit", "split_line")}
 PATHS |= {it: "comfy_table::presets" for it in ("by_name", "by_position")}
@@ -105,8 +111,8 @@ class Example:
         return f"{before}    {call}{'?' * bool(self.result())};"
 
 
-def examples_of(crate):
-    found = []
+def blocks_of(crate):
+    """The fenced blocks without a language in the doc comments of a crate: path, text before, text after, and lines."""
     for path in sorted(glob.glob(f"crates/{crate}/src/**/*.rt", root_dir=TOP, recursive=True)):
         text = text_of(path)
         for comment in re.finditer(r"(?:^ *//[/!].*\n)+", text, re.M):
@@ -115,10 +121,33 @@ def examples_of(crate):
             lines = re.sub(r"^ *//[/!] ?", "", comment[0], flags=re.M)
             for block in re.finditer(r"^```(\w*)\n(.*?)^```\n", lines, re.M | re.S):
                 if not block[1]:
-                    name = name_of(path, text[: comment.start()], after)
-                    if name not in PARTS:
-                        found.append(Example(name, block[2].splitlines()))
-    return found
+                    yield path, text[: comment.start()], after, block[2].splitlines()
+
+
+def examples_of(crate):
+    named = ((name_of(path, before, after), lines) for path, before, after, lines in blocks_of(crate))
+    return [Example(name, lines) for name, lines in named if name not in PARTS]
+
+
+def is_line_of(example, line):
+    """True if a line of a test is that of an example. An expression of an example is asserted."""
+    return line.strip() in (example.strip(), f"assert!(rt; {example.strip()});")
+
+
+def is_by_hand(example):
+    """True if a file has the lines of an example, one after another."""
+    for path in FILES_BY_HAND:
+        lines = text_of(f"crates/{path}").splitlines()
+        for at in range(len(lines) - len(example) + 1):
+            if all(map(is_line_of, example, lines[at:])):
+                return True
+    return False
+
+
+def without_test():
+    """A line for each example of the crates BY_HAND whose lines no file has."""
+    blocks = ((path, lines) for crate in BY_HAND for path, _, _, lines in blocks_of(crate))
+    return [f"{path}: no test has the lines of this example: {lines[0]}" for path, lines in blocks if not is_by_hand(lines)]
 
 
 def import_lines(code, uses):
@@ -260,8 +289,9 @@ def files():
 
 
 def wrong_examples():
-    """A line for each file that differs from the comments."""
-    return [f"{path} differs from the output of tools/make/doc_examples.py" for path, text in files().items() if text_of(path) != text]
+    """A line for each file that differs from the comments, and for each example that no file has."""
+    made = [f"{path} differs from the output of tools/make/doc_examples.py" for path, text in files().items() if text_of(path) != text]
+    return made + without_test()
 
 
 def main():

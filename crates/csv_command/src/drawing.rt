@@ -50,7 +50,7 @@ impl From<AllocError> for Refusal {
 /// the delimiter.
 ///
 /// ```
-/// let drawing = render_csv(rt.alloc(), &["csvtable", "-s", "grid"], b"name,days\noats,3\n")?;
+/// let drawing = render_csv(rt.alloc(), &["csvtable", "-s", "grid"], b"a,b\n1,2\n")?;
 /// ```
 pub fn render_csv<'a>(
     alloc: Global,

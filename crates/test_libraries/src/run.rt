@@ -1,6 +1,7 @@
 //! Tests of `comfy_run`, and of the libraries for CSV.
 
 mod counted;
+mod doc_examples;
 mod large;
 mod limited;
 mod pieces;

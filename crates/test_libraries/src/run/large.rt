@@ -243,6 +243,7 @@ pub(super) fn options(alloc: Global, width: Option<u16>, has_sequences: bool) ->
             encoding: None,
             skip: 0,
             delimiter: Delimiter::Auto,
+            has_header: true,
             has_quotes: true,
         },
         counts_all: false,
