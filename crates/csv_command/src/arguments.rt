@@ -1,6 +1,6 @@
 //! The options that the program's arguments give.
 
-ghost use Rattle.std.specs.Prelude.{◌≡◌, ◌≢◌, ◌==◌, IfOk, IfErr, Some, codes, map, option_map, string_bytes};
+ghost use Rattle.std.specs.Prelude.{◌≡◌, ◌≢◌, ◌==◌, IfOk, IfErr, Some, codes, map, not, option_map, string_bytes};
 ghost use Rattle.std.specs.List.{slice_split};
 ghost use Rattle.clap.specs.Words.{app_of, first_value, found_of, kind_of};
 ghost use Rattle.clap.specs.declared.error.kind.ErrorKind.TheVariants.{InvalidValue, OutOfMemory};
@@ -351,16 +351,23 @@ fn input_of<'a>(matches: &ArgMatches<'a>, delimiter: Delimiter) -> InputOptions
         encoding: encoding_of(matches.get_str("encoding")),
         skip: matches.get_one::<usize>("skip").unwrap_or(0),
         delimiter,
-        has_header: !is_given(matches, "no-header"),
+        has_header: has_header(matches),
         has_quotes: !is_given(matches, "no-quotes"),
     }
+}
+
+// True if the first record is the header.
+fn has_header<'a>(matches: &ArgMatches<'a>) -> bool
+    ensures { result ≡ not (is_given (found_of matches.now) (codes "no-header")) }
+{
+    !is_given(matches, "no-header")
 }
 
 fn selection_of<'a>(matches: &ArgMatches<'a>) -> Selection
     ensures { IsSelectionParsed (found_of matches.now) result }
 {
     Selection {
-        has_header: !is_given(matches, "no-header"),
+        has_header: has_header(matches),
         limit: matches.get_one::<usize>("limit"),
         is_numbered: is_given(matches, "number"),
         noun: Noun::Record,

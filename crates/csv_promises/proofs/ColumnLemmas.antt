@@ -132,7 +132,7 @@ module _ (options : Options) (records : List (List Text)) (own : ColumnsValue) (
   rows = drawn_rows options.selection records
 
   pub positions : own.drawn ≡ positions_in options names rows
-  positions = kept_positions names (record { all = count_of names rows; filled = filled_count names rows }) options.columns.chosen.items options.columns.dropped.items own.drawn (chosen names _ _ _ own found)
+  positions = kept_positions names (count_of names rows) (filled_count names rows) options.columns.chosen.items options.columns.dropped.items own.drawn (chosen names _ _ _ own found)
 
   -- the columns and their alignments are those that options choose
   pub are_asked : own ≡ columns_asked options names rows
@@ -145,7 +145,7 @@ module _ (options : Options) (records : List (List Text)) (own : ColumnsValue) (
       ∙ ap₂ (λ (r l : List ℕ). record { drawn = positions_in options names rows; right = r; left = l }) right left
 
   pub some_position : 1 ≤ length own.drawn
-  some_position = some_kept names (record { all = count_of names rows; filled = filled_count names rows }) options.columns.chosen.items options.columns.dropped.items own.drawn (chosen names _ _ _ own found)
+  some_position = some_kept names (count_of names rows) (filled_count names rows) options.columns.chosen.items options.columns.dropped.items own.drawn (chosen names _ _ _ own found)
 
   pub are_below : AreBelow names rows own.drawn
   are_below unnamed = subst (All (Below (count_of [] rows))) (sym (positions ∙ ap (λ (ns : List Text). positions_in options ns rows) unnamed)) (positions-below options rows)

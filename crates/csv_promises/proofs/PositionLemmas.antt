@@ -7,7 +7,6 @@ use Rattle.std.proofs.lemmas.Bool.Decides.{nat_tests}
 use Rattle.comfy_parts.specs.Text.{Text}
 use Rattle.csv_command.specs.Columns.{ColumnFault, at_two_sides, chosen_columns, columns_chosen, columns_with, joined, kept_columns, less, positions_between, positions_of, positions_of_each, placed_columns, positions_of_word, some_left, whole_name, without}
 use Rattle.csv_command.specs.Columns.ColumnFault.{missing, none_left}
-use Rattle.csv_command.specs.declared.columns.Counts.{Counts}
 use Rattle.csv_command.specs.Hints.{hint_for}
 use Rattle.csv_promises.specs.Fields.{positions_by, positions_by_each}
 use Rattle.csv_tables.specs.Columns.{ColumnsValue}
@@ -54,12 +53,12 @@ left_as_they_are positions kept = by_test (length positions == 0) refl
     by_test true test is = absurd (cc is)
     by_test false test is = let same : positions ≡ kept = cc is in (sym same, subst (λ (own : List ℕ). 1 ≤ length own) same (grind (arith, nat_tests, test)))
 
-pub kept_positions : {A : Type 0} (names : List Text) (counts : Counts) (words dropped : List (String A)) (kept : List ℕ) → kept_columns names counts words dropped ≡ Ok kept
-    → kept ≡ without (if length words == 0 then range_with_len 0 counts.filled else positions_by names counts.all words) (positions_by names counts.all dropped)
-kept_positions {A} names counts words dropped kept is = by_lists (chosen_columns names counts words) (positions_of names counts.all dropped) (all_or_chosen names counts.all counts.filled words) (found_by names counts.all dropped) is
+pub kept_positions : {A : Type 0} (names : List Text) (all filled : ℕ) (words dropped : List (String A)) (kept : List ℕ) → kept_columns names (record { all = all; filled = filled }) words dropped ≡ Ok kept
+    → kept ≡ without (if length words == 0 then range_with_len 0 filled else positions_by names all words) (positions_by names all dropped)
+kept_positions {A} names all filled words dropped kept is = by_lists (chosen_columns names (record { all = all; filled = filled }) words) (positions_of names all dropped) (all_or_chosen names all filled words) (found_by names all dropped) is
   where
-    by_lists : (chosen left : Result (List ℕ) ColumnFault) → ((ps : List ℕ) → chosen ≡ Ok ps → ps ≡ (if length words == 0 then range_with_len 0 counts.filled else positions_by names counts.all words)) → ((ps : List ℕ) → left ≡ Ok ps → ps ≡ positions_by names counts.all dropped) → less chosen left ≡ Ok kept
-        → kept ≡ without (if length words == 0 then range_with_len 0 counts.filled else positions_by names counts.all words) (positions_by names counts.all dropped)
+    by_lists : (chosen left : Result (List ℕ) ColumnFault) → ((ps : List ℕ) → chosen ≡ Ok ps → ps ≡ (if length words == 0 then range_with_len 0 filled else positions_by names all words)) → ((ps : List ℕ) → left ≡ Ok ps → ps ≡ positions_by names all dropped) → less chosen left ≡ Ok kept
+        → kept ≡ without (if length words == 0 then range_with_len 0 filled else positions_by names all words) (positions_by names all dropped)
     by_lists (Ok ps) (Ok qs) all some is = (left_as_they_are (without ps qs) kept is).0 ∙ ap₂ (λ (a b : List ℕ). without a b) (all ps refl) (some qs refl)
     by_lists (Ok ps) (Err fault) all some is = absurd (cc is)
     by_lists (Err fault) left all some is = absurd (cc is)
@@ -70,8 +69,8 @@ some_are_left (Err fault) dropped kept is = absurd (cc is)
 some_are_left (Ok ps) (Err fault) kept is = absurd (cc is)
 some_are_left (Ok ps) (Ok qs) kept is = (left_as_they_are (without ps qs) kept is).1
 
-pub some_kept : {A : Type 0} (names : List Text) (counts : Counts) (words dropped : List (String A)) (kept : List ℕ) → kept_columns names counts words dropped ≡ Ok kept → 1 ≤ length kept
-some_kept names counts words dropped kept is = some_are_left (chosen_columns names counts words) (positions_of names counts.all dropped) kept is
+pub some_kept : {A : Type 0} (names : List Text) (all filled : ℕ) (words dropped : List (String A)) (kept : List ℕ) → kept_columns names (record { all = all; filled = filled }) words dropped ≡ Ok kept → 1 ≤ length kept
+some_kept names all filled words dropped kept is = some_are_left (chosen_columns names (record { all = all; filled = filled }) words) (positions_of names all dropped) kept is
 
 placed : (names : List Text) (made columns : ColumnsValue) (fault : Option ℕ) → placed_columns names made fault ≡ Ok columns → made ≡ columns
 placed names made columns (Some p) is = absurd (cc is)

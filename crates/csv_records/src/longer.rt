@@ -77,7 +77,10 @@ fn first_longer(records: &Rows<'_>, most: usize) -> Option<usize>
 fn count_longer(records: &Rows<'_>, most: usize) -> usize
     ensures { result ≡ count_by (λ fields. nat_lt most (filled_len fields)) records.now }
 {
-    records.iter().filter(|record| record.has_more(most)).count()
+    records
+        .iter()
+        .filter(|record| record.has_more(most))
+        .count()
 }
 
 // These bytes from the record on before which this many are.

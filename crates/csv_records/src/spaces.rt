@@ -10,11 +10,7 @@ use std::alloc::{AllocError, Global};
 
 /// The text with TABs between its fields. A blank line is left out. A first line like `total 92` is
 /// the header, or is left out if there is no header.
-pub(crate) fn tabbed_text(
-    alloc: Global,
-    text: &str,
-    has_header: bool,
-) -> Result<String, AllocError>
+pub(crate) fn tabbed_text(alloc: Global, text: &str, has_header: bool) -> Result<String, AllocError>
     ensures { IfOk result (λ tabbed. string_bytes tabbed ≡ tabbed_text has_header text.now) }
 {
     let filled = filled_lines(alloc, text)?;
@@ -52,12 +48,7 @@ fn tabbed_lines(alloc: Global, lines: &[&str], has_names: bool) -> Result<String
 }
 
 // Lines with TABs for their first gaps, after a first text.
-fn lines_text(
-    alloc: Global,
-    first: &str,
-    lines: &[&str],
-    gaps: usize,
-) -> Result<String, AllocError>
+fn lines_text(alloc: Global, first: &str, lines: &[&str], gaps: usize) -> Result<String, AllocError>
     ensures { IfOk result (λ text. string_bytes text
         ≡ first.now ++ lines_text gaps (map (λ line. line.now) lines.now)) }
 {

@@ -105,8 +105,7 @@ impl Drop for Columns {
 }
 
 impl Model for Columns {
-    ghost use Rattle.csv_records.specs.Longer.{filled_len};
-ghost use Rattle.csv_tables.specs.Columns.{ColumnsValue};
+    ghost use Rattle.csv_tables.specs.Columns.{ColumnsValue};
 
     ghost Value = { ColumnsValue };
 

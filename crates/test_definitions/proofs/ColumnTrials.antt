@@ -7,10 +7,11 @@ use Rattle.comfy_parts.specs.Text.{Text}
 use Rattle.csv.specs.Records.{field_at}
 use Rattle.ucd_category.proofs.Computing.{ucd_category}
 use Rattle.std.specs.Str.{chars}
-use Rattle.csv_records.specs.Number.{is_neutral, is_number}
+use Rattle.csv_records.specs.Number.{has_indian_groups, is_neutral, is_number}
 use Rattle.csv_records.specs.declared.decimals.DecimalMark.TheVariants.{Point}
 use Rattle.csv_tables.specs.declared.options.Look.{Look}
 use Rattle.csv_tables.specs.declared.options.ColumnPlan.{ColumnPlan}
+use Rattle.csv_tables.specs.Columns.{filled_count}
 use Rattle.csv_tables.specs.Cells.{counted_from, shown_in, shown_names}
 use Rattle.csv_command.specs.Columns.{less, positions_of, positions_of_word}
 use Rattle.csv_command.specs.Columns.ColumnFault.{missing, none_left}
@@ -29,6 +30,20 @@ by_range :
     map (positions_of_word header 5) (texts ("e-mail" ∷ "2-3" ∷ "a-e" ∷ "1-phone" ∷ "e-5" ∷ "4-" ∷ "phone-" ∷ "5-" ∷ "phone-phone" ∷ []))
     ≡ Ok (2 ∷ []) ∷ Ok (1 ∷ 2 ∷ []) ∷ Ok (0 ∷ 1 ∷ []) ∷ Ok (0 ∷ 1 ∷ 2 ∷ 3 ∷ []) ∷ Ok (1 ∷ 2 ∷ 3 ∷ 4 ∷ []) ∷ Ok (3 ∷ 4 ∷ []) ∷ Ok (3 ∷ 4 ∷ []) ∷ Ok (4 ∷ []) ∷ Ok (3 ∷ []) ∷ []
 by_range = refl
+
+-- columns at the end without a name and a field aren't drawn; with a name, or a field of any row, they are; one column is
+-- drawn in any case, if there is one
+filled_columns :
+    map (λ (rows : List (List Text)). filled_count (texts ("a" ∷ "b" ∷ "" ∷ [])) rows)
+    (
+    (texts ("1" ∷ "" ∷ "" ∷ "" ∷ []) ∷ [])
+    ∷ (texts ("1" ∷ "2" ∷ "" ∷ "" ∷ []) ∷ texts ("1" ∷ "" ∷ "3" ∷ "" ∷ []) ∷ [])
+    ∷ []
+    ) ≡ 2 ∷ 3 ∷ []
+filled_columns = refl
+
+blank_columns : map (filled_count []) ((texts ("" ∷ "" ∷ []) ∷ []) ∷ [] ∷ []) ≡ 1 ∷ 0 ∷ []
+blank_columns = refl
 
 -- the first hyphen with existing columns on both sides
 by_hyphens :
@@ -109,7 +124,7 @@ numbered = refl
 
 aligned : map (λ is_aligned. shown_in look is_aligned false prices (7, texts ("oats" ∷ "3.5" ∷ []))) (true ∷ false ∷ [])
     ≡ (record { alignment = Some Right; text = codes "3.5 " } ∷ []) ∷ (record { alignment = Some Right; text = codes "3.5" } ∷ []) ∷ []
-unfolding chars lib.Utf8.encode ucd_category field_at is_neutral is_number
+unfolding chars lib.Utf8.encode ucd_category field_at is_neutral is_number has_indian_groups
 aligned = refl
 
 -- the header, with the name above the numbers

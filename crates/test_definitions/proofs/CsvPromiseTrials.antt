@@ -20,7 +20,7 @@ use Rattle.comfy_parts.specs.Text.{Text, measure, spaces}
 use Rattle.csv_tables.specs.Cells.{is_blank}
 use Rattle.csv.specs.Records.{field_at}
 use Rattle.ucd_category.proofs.Computing.{ucd_category}
-use Rattle.csv_records.specs.Number.{is_neutral, is_number}
+use Rattle.csv_records.specs.Number.{has_indian_groups, is_neutral, is_number}
 use Rattle.csv_tables.specs.declared.options.Expansion.{Expansion}
 use Rattle.csv_tables.specs.declared.options.Expansion.TheVariants.{Always, Auto, Never}
 use Rattle.csv_tables.specs.NoWrap.{framed_width, is_nowrap}
@@ -255,24 +255,24 @@ first_column : List ℕ → ColumnsValue
 first_column left = record { drawn = 0 ∷ []; right = []; left = left }
 
 lined_up_amounts : all_rows false (mark_for true (first_column []) amounts) (0 ∷ []) None amounts ≡ (codes "1.5" ∷ []) ∷ (codes "22  " ∷ []) ∷ []
-unfolding amounts first_column chars digits encode ucd_category field_at is_neutral is_number
+unfolding amounts first_column chars digits encode ucd_category field_at is_neutral is_number has_indian_groups
 lined_up_amounts = refl
 
 unasked_amounts : all_rows false (mark_for false (first_column []) amounts) (0 ∷ []) None amounts ≡ amounts
-unfolding amounts first_column chars digits encode ucd_category field_at is_neutral is_number
+unfolding amounts first_column chars digits encode ucd_category field_at is_neutral is_number has_indian_groups
 unasked_amounts = refl
 
 own_sides : map (λ left. sides_for true (first_column left) amounts) ([] ∷ (0 ∷ []) ∷ []) ≡ (Right ∷ Right ∷ []) ∷ (Right ∷ Left ∷ []) ∷ []
-unfolding amounts first_column chars digits encode ucd_category field_at is_neutral is_number
+unfolding amounts first_column chars digits encode ucd_category field_at is_neutral is_number has_indian_groups
 own_sides = refl
 
 sides_of_words : sides_for false (first_column []) ((codes "a" ∷ []) ∷ amounts) ≡ Left ∷ []
-unfolding amounts first_column chars digits encode ucd_category field_at is_neutral is_number
+unfolding amounts first_column chars digits encode ucd_category field_at is_neutral is_number has_indian_groups
 sides_of_words = refl
 
 -- a column of words has none, unless it is set to the right
 right_side_of_words : sides_for false (record { drawn = 0 ∷ []; right = 0 ∷ []; left = [] }) ((codes "a" ∷ []) ∷ amounts) ≡ Right ∷ []
-unfolding amounts chars digits encode ucd_category field_at is_neutral is_number
+unfolding amounts chars digits encode ucd_category field_at is_neutral is_number has_indian_groups
 right_side_of_words = refl
 
 -- without a width, marks are aligned if that is requested; they never are if it isn't
@@ -287,7 +287,7 @@ numbers_and_words : List (List Text)
 numbers_and_words = (codes "12" ∷ codes "a" ∷ []) ∷ (codes "2026-05-02" ∷ []) ∷ []
 
 whole_under_auto : map (λ rows. whole_for (Some 9) Auto true (1 ∷ 0 ∷ []) rows) (numbers_and_words ∷ [] ∷ []) ≡ (true ∷ false ∷ true ∷ []) ∷ [] ∷ []
-unfolding numbers_and_words chars encode ucd_category field_at is_neutral is_number
+unfolding numbers_and_words chars encode ucd_category field_at is_neutral is_number has_indian_groups
 whole_under_auto = refl
 
 -- otherwise no column is kept whole under a width, and all are without one
@@ -421,7 +421,7 @@ abbrev date_cell : CellValue
 date_cell = plain_cell (codes "2026-05-02")
 
 split_date : ¬ (KeepsNumbers unbold 18 6 (plain_row (plain_cell (codes "day") ∷ date_cell ∷ [])))
-unfolding wrapping chars encode ucd_category is_neutral is_number
+unfolding wrapping chars encode ucd_category is_neutral is_number has_indian_groups
 split_date keeps =
     let room : framed_width dashed (4 ∷ measure (codes "2026-05-02") ∷ []) ≤ 18 = omega arith in
     let whole : 10 ≤ 6 = All-head (λ line. is_nowrap line ≡ true → framed_width dashed (4 ∷ measure line ∷ []) ≤ 18 → measure line ≤ 6) (codes "2026-05-02") [] (keeps date_cell refl) refl room in

@@ -13,7 +13,7 @@ use Rattle.comfy_parts.specs.declared.style.column.ColumnConstraint.{ColumnConst
 use Rattle.comfy_parts.specs.declared.style.column.ColumnConstraint.TheVariants.{Absolute, LowerBoundary}
 use Rattle.comfy_parts.specs.declared.style.column.Width.TheVariants.{Fixed}
 use Rattle.csv_tables.specs.Summaries.{column_fields}
-use Rattle.csv_records.specs.Number.{is_neutral, is_number}
+use Rattle.csv_records.specs.Number.{has_indian_groups, is_neutral, is_number}
 use Rattle.comfy_table.specs.TableValue.{TableValue, new_table, with_header, with_rows}
 use Rattle.csv_tables.specs.Drawn.{is_expanded_in, least_words}
 use Rattle.csv_tables.specs.NoWrap.{Wanted, kept_word, most_wanted, by_columns, framed_width, given_in, has_room, is_nowrap, min_width, with_min_widths, with_min_field_width, least_width, fair_level, may_break, room_beside, room_for_two, width_at_level, shared_content, nowrap_width}
@@ -24,22 +24,22 @@ texts words = map (λ (word : String). codes word) words
 
 -- numbers, neutral fields, dates and times; the longest has 25 characters
 unbroken : list_all is_nowrap (texts ("" ∷ "2026-05-02" ∷ "02.05.2026" ∷ "5/2/26" ∷ "12:30" ∷ "2026-05-02 12:30" ∷ "2026-05-02T12:30:00Z" ∷ "2026-05-02T12:30:00+01:00" ∷ "-1,234.50" ∷ "12 %" ∷ "n/a" ∷ "-" ∷ [])) ≡ true
-unfolding chars lib.Utf8.encode ucd_category is_neutral is_number
+unfolding chars lib.Utf8.encode ucd_category is_neutral is_number has_indian_groups
 unbroken = refl
 
 -- time stamps; the longest has 35 characters
 stamps : list_all is_nowrap (texts ("2026-05-02T12:30:00.123456789+01:00" ∷ "2026-05-02 12:30:00.123456 UTC" ∷ "12/31/2026 12:30:00.000 PM" ∷ [])) ≡ true
-unfolding chars lib.Utf8.encode ucd_category is_neutral is_number
+unfolding chars lib.Utf8.encode ucd_category is_neutral is_number has_indian_groups
 stamps = refl
 
 -- words, 26 digits, and a time stamp of 36 characters
 broken : list_any is_nowrap (texts ("word" ∷ "2026-W18" ∷ "2 May" ∷ "12345678901234567890123456" ∷ "2026-05-02T12:30:00.1234567890+01:00" ∷ [])) ≡ false
-unfolding chars lib.Utf8.encode ucd_category is_neutral is_number
+unfolding chars lib.Utf8.encode ucd_category is_neutral is_number has_indian_groups
 broken = refl
 
 -- the second of two rows has one field
 columns : map (λ position. list_all is_nowrap (column_fields (texts ("1" ∷ "a" ∷ []) ∷ texts ("2" ∷ []) ∷ []) position)) (0 ∷ 1 ∷ 2 ∷ []) ≡ true ∷ false ∷ true ∷ []
-unfolding chars lib.Utf8.encode ucd_category field_at is_neutral is_number
+unfolding chars lib.Utf8.encode ucd_category field_at is_neutral is_number has_indian_groups
 columns = refl
 
 -- columns of numbers and dates, and other columns, which keep the words of their names
@@ -155,7 +155,7 @@ beside = refl
 
 -- a date that has room counts, and no word does
 counted : map (nowrap_width 10) (texts ("2026-05-02" ∷ "2026-05-02 12:30" ∷ "letters" ∷ [])) ≡ 10 ∷ 0 ∷ 0 ∷ []
-unfolding wrapping chars lib.Utf8.encode ucd_category is_number is_neutral
+unfolding wrapping chars lib.Utf8.encode ucd_category is_number is_neutral has_indian_groups
 counted = refl
 
 -- it might be broken beside a long name, but not if the name fits, or if half of the room is enough
@@ -175,10 +175,10 @@ abbrev pair_constraints : Option ℕ → List (Option ColumnConstraint)
 pair_constraints width = map (λ (column : ColumnValue). column.constraint) (with_min_field_width width record_of_two).columns
 
 held : pair_constraints (Some 22) ≡ None ∷ Some (Absolute (Fixed 12)) ∷ []
-unfolding wrapping chars lib.Utf8.encode ucd_category is_number is_neutral
+unfolding wrapping chars lib.Utf8.encode ucd_category is_number is_neutral has_indian_groups
 held = refl
 
 -- with less room for it, or with room for the names too, no width is fixed
 free : map pair_constraints (Some 20 ∷ Some 24 ∷ None ∷ []) ≡ (None ∷ None ∷ []) ∷ (None ∷ None ∷ []) ∷ (None ∷ None ∷ []) ∷ []
-unfolding wrapping chars lib.Utf8.encode ucd_category is_number is_neutral
+unfolding wrapping chars lib.Utf8.encode ucd_category is_number is_neutral has_indian_groups
 free = refl

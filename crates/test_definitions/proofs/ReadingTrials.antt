@@ -12,7 +12,7 @@ use Rattle.csv.specs.declared.parser.State.TheVariants as st
 use Rattle.ucd_category.proofs.Computing.{ucd_category}
 use Rattle.comfy_parts.specs.Text.{Text}
 use Rattle.csv_command.specs.Ending.{input_name, reading_reason, reason_for}
-use Rattle.csv_records.specs.Number.{is_neutral, is_number}
+use Rattle.csv_records.specs.Number.{has_indian_groups, is_neutral, is_number}
 use Rattle.csv_records.specs.Lines.{below_lines}
 use Rattle.csv_records.specs.Longer.{longer_records}
 use Rattle.csv_records.specs.Delimiter.{agreement, delimited, delimiter_in}
@@ -80,6 +80,12 @@ longer_ones : map (λ (input : String). longer_records below_two (codes input) (
 unfolding strip_bom records_from next_record
 longer_ones = refl
 
+-- empty fields at the end of a record don't count, and others do
+empty_at_the_end : map (λ (input : String). longer_records below_two (codes input) (records_from (config_for 0x2C true) 9 st.StartRecord (strip_bom (codes input))))
+    ("a,b\n1,2,\n3,4,,\n" ∷ "a,b\n1,2,\n3,,5,\n" ∷ "a,b,\n1,2,3,\n" ∷ []) ≡ None ∷ Some (record { line = 5; fields = 4; first_fields = 2; others = 0; lasts = true }) ∷ None ∷ []
+unfolding strip_bom records_from next_record
+empty_at_the_end = refl
+
 -- quotes as csv reads them, and as characters
 with_quotes : map (λ (has_quotes : Bool). (delimited Auto has_quotes (codes "\"a;b\",c\n1,2\n")).0) (true ∷ false ∷ []) ≡ 0x2C ∷ 0x2C ∷ []
 unfolding strip_bom records_from next_record
@@ -124,12 +130,12 @@ encodings = refl
 -- ---- fields that aren't broken
 
 unbroken : list_all is_nowrap (texts ("" ∷ "-84,50" ∷ "($3.00)" ∷ "02.05.2026" ∷ "2026-05-01T09:10:00+02:00" ∷ "192.168.0.1" ∷ "10:00 - 11:30" ∷ "0042" ∷ "n/a" ∷ [])) ≡ true
-unfolding chars lib.Utf8.encode ucd_category is_neutral is_number
+unfolding chars lib.Utf8.encode ucd_category is_neutral is_number has_indian_groups
 unbroken = refl
 
 -- words, and texts of more than 25 characters
 broken : list_any is_nowrap (texts ("no" ∷ "May 2" ∷ "1.2.3b" ∷ "12345678901234567890123456" ∷ [])) ≡ false
-unfolding chars lib.Utf8.encode ucd_category is_neutral is_number
+unfolding chars lib.Utf8.encode ucd_category is_neutral is_number has_indian_groups
 broken = refl
 
 -- ---- signs that an input is no text in UTF-8

@@ -25,7 +25,7 @@ use Rattle.comfy_parts.specs.CellValue.{plain_cell, plain_row}
 use Rattle.comfy_table.specs.TableValue.{TableValue, new_table, with_rows}
 use Rattle.csv_tables.specs.Markdown.{escaped, unescaped}
 use Rattle.csv_tables.specs.References.{begins_reference}
-use Rattle.csv_records.specs.Number.{back_of, figure_of, front_of, is_neutral, is_number}
+use Rattle.csv_records.specs.Number.{has_indian_groups, back_of, figure_of, front_of, is_neutral, is_number}
 use Rattle.clap.proofs.OnLiterals.{clap_on_literals}
 use Rattle.clap.specs.Words.{first_of, matches_of}
 use Rattle.csv_command.specs.Program.{csvtable_rules, with_rules, wordless}
@@ -47,55 +47,60 @@ texts words = map (λ (word : String). codes word) words
 -- ---- numbers
 
 numbers : list_all is_number (texts ("0" ∷ "-12" ∷ "+12.50" ∷ ".5" ∷ "5." ∷ "8.1e4" ∷ "2E-3" ∷ "7%" ∷ "12 %" ∷ "-$12" ∷ "$-12" ∷ "$ 12" ∷ "5$" ∷ "(12)" ∷ "($12.50)" ∷ [])) ≡ true
-unfolding chars lib.Utf8.encode ucd_category is_number
+unfolding chars lib.Utf8.encode ucd_category is_number has_indian_groups
 numbers = refl
 
 -- numbers with groups; one mark with three digits after it is a decimal mark or a group mark, and the field is a number
 -- either way
 grouped_numbers : list_all is_number (texts ("1,234" ∷ "1234,567" ∷ "1_000" ∷ "1'234.5" ∷ "1 234,5" ∷ "-1,234.5" ∷ "1.234,56" ∷ "12.345.678" ∷ "1.234.567.890" ∷ "1.000.000.000,5" ∷ "1,234e5" ∷ [])) ≡ true
-unfolding chars lib.Utf8.encode ucd_category is_number
+unfolding chars lib.Utf8.encode ucd_category is_number has_indian_groups
 grouped_numbers = refl
+
+-- in Indian groups, all digits except the last are in groups of two, separated by commas
+indian_numbers : map (λ (text : String). is_number (codes text)) ("12,34,567" ∷ "1,00,000.50" ∷ "-9,99,99,999" ∷ "1,23,45" ∷ "12,34,56" ∷ "123,45,678" ∷ "1,234,56" ∷ "12.34.567" ∷ "1,00,000." ∷ []) ≡ true ∷ true ∷ true ∷ false ∷ false ∷ false ∷ false ∷ false ∷ true ∷ []
+unfolding chars lib.Utf8.encode ucd_category is_number has_indian_groups
+indian_numbers = refl
 
 -- U+2212, a pound, a euro after U+00A0, and U+202F between groups
 numbers_beyond_ascii : list_all is_number (map encode_utf8_all ((0x2212 ∷ 0x33 ∷ []) ∷ (0x2D ∷ 0xA3 ∷ 0x35 ∷ []) ∷ (0x31 ∷ 0x32 ∷ 0xA0 ∷ 0x20AC ∷ []) ∷ (0x31 ∷ 0x202F ∷ 0x32 ∷ 0x33 ∷ 0x34 ∷ []) ∷ [])) ≡ true
-unfolding chars lib.Utf8.encode ucd_category is_number
+unfolding chars lib.Utf8.encode ucd_category is_number has_indian_groups
 numbers_beyond_ascii = refl
 
 no_numbers : list_any is_number (texts ("" ∷ "-" ∷ "." ∷ "$" ∷ "%" ∷ "()" ∷ "e5" ∷ "1e" ∷ "1e+" ∷ "1e2.5" ∷ "1 e5" ∷ "1-2" ∷ "--1" ∷ "-$-1" ∷ "$12%" ∷ "%5" ∷ "(-5)" ∷ "-(5)" ∷ "( 5)" ∷ "- 1" ∷ "12a" ∷ [])) ≡ false
-unfolding chars lib.Utf8.encode ucd_category is_number
+unfolding chars lib.Utf8.encode ucd_category is_number has_indian_groups
 no_numbers = refl
 
 -- a minus directly after the figure
 later_signs : list_all is_number (texts ("1.250,00-" ∷ "5-" ∷ "EUR 5-" ∷ "5- EUR" ∷ "5-%" ∷ [])) ≡ true
-unfolding chars lib.Utf8.encode ucd_category is_number
+unfolding chars lib.Utf8.encode ucd_category is_number has_indian_groups
 later_signs = refl
 
 no_later_signs : list_any is_number (texts ("-5-" ∷ "5+" ∷ "5 -" ∷ "5--" ∷ "(5-)" ∷ "EUR -5-" ∷ [])) ≡ false
-unfolding chars lib.Utf8.encode ucd_category is_number
+unfolding chars lib.Utf8.encode ucd_category is_number has_indian_groups
 no_later_signs = refl
 
 -- currencies by their codes and names, and units of sizes and times
 coded_numbers : list_all is_number (texts ("USD 12.50" ∷ "12.50 EUR" ∷ "EUR12" ∷ "-5 CHF" ∷ "USD -5" ∷ "USD-5" ∷ "-USD 5" ∷ "(JPY 100)" ∷ "(100 JPY)" ∷ "R$ 1.250,00" ∷ "-R$5" ∷ "99 kr" ∷ "kr 5" ∷ [])) ≡ true
-unfolding chars lib.Utf8.encode ucd_category is_number
+unfolding chars lib.Utf8.encode ucd_category is_number has_indian_groups
 coded_numbers = refl
 
 measured_numbers : list_all is_number (texts ("1.5K" ∷ "23M" ∷ "4 GiB" ∷ "512 kB" ∷ "100Mi" ∷ "7B" ∷ "1E" ∷ "1e3E" ∷ "12 ms" ∷ "3min" ∷ "-5d" ∷ "1,000 us" ∷ "(2 h)" ∷ [])) ≡ true
-unfolding chars lib.Utf8.encode ucd_category is_number
+unfolding chars lib.Utf8.encode ucd_category is_number has_indian_groups
 measured_numbers = refl
 
 -- millionths of a second with either letter, after a narrow no-break space
 millionths : list_all is_number (map encode_utf8_all ((0x33 ∷ 0xB5 ∷ 0x73 ∷ []) ∷ (0x33 ∷ 0x202F ∷ 0x03BC ∷ 0x73 ∷ []) ∷ [])) ≡ true
-unfolding chars lib.Utf8.encode ucd_category is_number
+unfolding chars lib.Utf8.encode ucd_category is_number has_indian_groups
 millionths = refl
 
 -- words that aren't codes or units here, more than one of them, or two spaces
 no_units : list_any is_number (texts ("usd 5" ∷ "5 XXX" ∷ "5 XAU" ∷ "5 ABC" ∷ "EURO 5" ∷ "EUR5EUR" ∷ "5 m" ∷ "5kb" ∷ "5 KIB" ∷ "5iB" ∷ "5 kBB" ∷ "kB 5" ∷ "5 hr" ∷ "5 D" ∷ "$5K" ∷ "5K%" ∷ "EUR 5 kB" ∷ "USD  5" ∷ "5  kB" ∷ "1e" ∷ "5 KR" ∷ "r$ 5" ∷ "R 5" ∷ [])) ≡ false
-unfolding chars lib.Utf8.encode ucd_category is_number
+unfolding chars lib.Utf8.encode ucd_category is_number has_indian_groups
 no_units = refl
 
 -- spaces around a number don't count: a space, TAB, a line feed, a carriage return, U+00A0 and U+202F
 spaced_numbers : list_all is_number (map encode_utf8_all ((0x20 ∷ 0x20 ∷ 0x35 ∷ []) ∷ (0x35 ∷ 0x0D ∷ 0x0A ∷ []) ∷ (0x09 ∷ 0x24 ∷ 0x35 ∷ 0xA0 ∷ []) ∷ (0x202F ∷ 0x35 ∷ 0x25 ∷ 0x20 ∷ []) ∷ [])) ≡ true
-unfolding chars lib.Utf8.encode ucd_category is_number
+unfolding chars lib.Utf8.encode ucd_category is_number has_indian_groups
 spaced_numbers = refl
 
 -- the figure goes from the first digit or mark to the last one, with the text before it and the text after it
@@ -104,12 +109,12 @@ figure_parts = refl
 
 -- groups of another length, and groups with two different marks
 ungrouped_digits : list_any is_number (texts ("1 2" ∷ "1,2,3" ∷ "1_00" ∷ "12,34,567" ∷ "1234,567,890" ∷ "1,234.567,890" ∷ "1.234,567.8" ∷ [])) ≡ false
-unfolding chars lib.Utf8.encode ucd_category is_number
+unfolding chars lib.Utf8.encode ucd_category is_number has_indian_groups
 ungrouped_digits = refl
 
 -- names, dates, times, versions and addresses
 other_digits : list_any is_number (texts ("0042" ∷ "-007" ∷ "$0042" ∷ "USD 0042" ∷ "(0042)" ∷ "0042 s" ∷ " 0042" ∷ "2026-05-02" ∷ "02.05.2026" ∷ "12:30" ∷ "1.2.3" ∷ "192.168.1.10" ∷ "192.168.100.200" ∷ "1.000.000.000" ∷ [])) ≡ false
-unfolding chars lib.Utf8.encode ucd_category is_number
+unfolding chars lib.Utf8.encode ucd_category is_number has_indian_groups
 other_digits = refl
 
 neutral_fields : list_all is_neutral (texts ("" ∷ "-" ∷ "n/a" ∷ "N/A" ∷ "na" ∷ "Null" ∷ "NaN" ∷ "-inf" ∷ "+INF" ∷ " " ∷ " - " ∷ " n/a " ∷ "None" ∷ "#N/A" ∷ "(null)" ∷ "<NULL>" ∷ ".." ∷ [])) ≡ true
@@ -277,7 +282,7 @@ rows = texts ("x" ∷ "1" ∷ "2" ∷ "-" ∷ "0042" ∷ []) ∷ texts ("3" ∷ 
 -- a column with a word, one with neutral fields, one with a missing field, one of neutral fields alone, one with a
 -- name, and one without a field
 alignments : map (λ p. alignment_for [] [] (is_number_kind (column_kind (column_fields rows p))) p) (0 ∷ 1 ∷ 2 ∷ 3 ∷ 4 ∷ 5 ∷ []) ≡ None ∷ Some Right ∷ Some Right ∷ None ∷ None ∷ None ∷ []
-unfolding field_at chars lib.Utf8.encode ucd_category is_neutral is_number
+unfolding field_at chars lib.Utf8.encode ucd_category is_neutral is_number has_indian_groups
 alignments = refl
 
 -- if sequences are kept, a coloured number is a number
@@ -285,12 +290,12 @@ abbrev in_red : Text
 in_red = 0x1B ∷ codes "[31m12" ++ 0x1B ∷ codes "[0m"
 
 coloured_alignments : map (λ keeps. alignment_for [] [] (is_number_kind (column_kind (column_fields (map (seen keeps) ((in_red ∷ []) ∷ [])) 0))) 0) (true ∷ false ∷ []) ≡ Some Right ∷ None ∷ []
-unfolding field_at chars lib.Utf8.encode ucd_category is_neutral is_number
+unfolding field_at chars lib.Utf8.encode ucd_category is_neutral is_number has_indian_groups
 coloured_alignments = refl
 
 -- right overrides left, and both override numbers
 chosen_alignments : map (λ p. alignment_for (0 ∷ []) (0 ∷ 1 ∷ []) (is_number_kind (column_kind (column_fields rows p))) p) (0 ∷ 1 ∷ []) ≡ Some Right ∷ Some Left ∷ []
-unfolding field_at chars lib.Utf8.encode ucd_category is_neutral is_number
+unfolding field_at chars lib.Utf8.encode ucd_category is_neutral is_number has_indian_groups
 chosen_alignments = refl
 
 -- ---- the line on records that aren't drawn

@@ -12,6 +12,6 @@ returns c =
       encoding = c.encoding_of.ensures ∙ ap encoding_for c.get_str.ensures;
       skip = c.unwrap_or.ensures ∙ ap (λ number. unwrap_or number 0) skip;
       delimiter = c.requires;
-      header = ap not c.is_given.ensures;
-      quotes = ap not c.is_given-2.ensures;
+      header = c.has_header.ensures;
+      quotes = ap not c.is_given.ensures;
     }
