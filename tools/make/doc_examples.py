@@ -4,8 +4,8 @@
     tools/make/doc_examples.py            writes the source of the crate and its stored output
     tools/make/doc_examples.py --check    prints the files that differ from the comments, and ends with status 1 if one does
 
-The examples of devices, comfy_run, csv_records and csv_command are in tests that are written by hand, or are a `main`. The check
-looks for their lines in these files.
+The examples of the crates BY_HAND are in tests that are written by hand, or are a `main`. The check looks for their lines in
+FILES_BY_HAND.
 
 An example is a fenced block without a language in a doc comment of comfy_parts or comfy_table. It becomes a function with the
 name of the item that has the comment. Each variable that an example uses without making it, such as `table`, becomes a parameter.
@@ -33,8 +33,8 @@ PARAMETERS = {
     "column": ("&mut Column", "&mut Column::new(0)"),
 }
 # The crates whose examples are written by hand, and the files that have them.
-BY_HAND = ["devices", "comfy_run", "csv_records", "csv_command"]
-FILES_BY_HAND = ["test_libraries/src/run/doc_examples.rt", "ctable/src/main.rt", "csvtable/src/main.rt"]
+BY_HAND = ["devices", "comfy_run", "csv_records", "csv_command", "comfy_c"]
+FILES_BY_HAND = ["test_libraries/src/run/doc_examples.rt", "comfy_c/src/tests.rt", "ctable/src/main.rt", "csvtable/src/main.rt"]
 SPLIT = "comfy_table::utils::formatting::content_split"
 PATHS = {"Global": "std::alloc"} | {it: SPLIT for it in ("ColumnDisplayInfo", "characters_fit", "split_line")}
 PATHS |= {it: "comfy_table::presets" for it in ("by_name", "by_position")}
