@@ -7,7 +7,7 @@ build() {
   [ -e "crates/$crate/out/$made" ] || (cd "crates/$crate" && "$@" > /dev/null < /dev/null)
 }
 
-# Copies a file with a mode into a folder below $prefix, under its own name or another one, and prints where it is.
+# Copies a file with a mode into a folder below $prefix, under its own name or another one, and prints its path.
 put() {
   mode=$1 file=$2 folder=$prefix/$3 name=${4:-$(basename "$2")}
   mkdir -p "$folder"

@@ -1,6 +1,6 @@
 /*
  * Memory in a module of WebAssembly: malloc, realloc and free. A block has a power of two of bytes, after a header of 16 bytes
- * with its class, the exponent. Freed blocks of a class are listed. They are never joined, and memory that was asked of the
+ * with its class, the exponent. Freed blocks of a class are listed. They are never joined, and memory that came from the
  * browser is never given back; the page makes an instance of the module for each drawing.
  *
  * Nothing proves these functions.

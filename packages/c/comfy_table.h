@@ -42,7 +42,7 @@
  * and no zero byte follows.
  *
  * Link libcomfy_c.a, and after it liblibc_c.a, through which it allocates memory. For Linux on x86-64 the second file is one of the
- * Rattle toolchain; share/doc/comfy_table/PROVED.md says where it comes from elsewhere.
+ * Rattle toolchain; share/doc/comfy_table/PROVED.md names its source for other systems.
  */
 #ifndef COMFY_TABLE_H
 #define COMFY_TABLE_H

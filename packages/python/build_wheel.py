@@ -1,4 +1,4 @@
-"""Writes the package's wheel, with no other package and no network: a build backend of PEP 517 that stands beside it.
+"""Writes the package's wheel, with no other package and no network: a build backend of PEP 517, in the same folder.
 
 setuptools would tag a wheel with a shared library for one version of Python. This library is called by ctypes, so that it
 serves each of them.

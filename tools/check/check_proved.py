@@ -1,5 +1,6 @@
 #!/usr/bin/env python3
-"""Compares the pages with the code. It prints each difference, or "all agree", and ends with status 1 if there is one.
+"""Compares the pages with the code. It prints each difference, or "all agree", and ends with status 1 if there is one. The line
+before says how many of 1,000 words are ones that the house avoids.
 
     tools/check/check_proved.py
 
@@ -14,6 +15,7 @@
 - Each mutation changes a function that exists.
 - Each definition of specs/ and proofs/ is used, and each private function is called (tools/check/reach.py).
 - The first comment of each file in specs/ of a library ends with the source of its rules.
+- Comments and pages don't have more of the words that the house avoids than before (tools/check/avoided.py).
 - No line of src/ and specs/ has more than 100 characters, except `use` lines and `#[tactic(..)]`, which `rt fmt` doesn't break.
 - The crate of documented examples agrees with the doc comments, and each other example has a test (tools/make/doc_examples.py).
 - csvtable's man page and completions agree with its options (tools/make/manual.py).
@@ -25,6 +27,7 @@ import os
 import re
 import sys
 
+from avoided import summary, too_many
 from definitions import LIBRARIES, PROMISES, TOP, files_of, functions_of, sources_of, text_of
 from mutations import mutations_of
 from new_items import unlisted
@@ -255,7 +258,9 @@ def main():
     wrong += [*unreached(), *uncalled()]
     wrong += wrong_lines()
     wrong += wrong_versions()
+    wrong += too_many()
     wrong += [f"{path} has no source of its rules" for path in without_source()]
+    print(summary())
     print("\n".join(wrong) or "all agree")
     return 1 if wrong else 0
 

@@ -3,18 +3,22 @@
 
     tools/make/pictures.py
 
-Each character is drawn at its column, and a wide one takes two. Frames are drawn as lines, so that they meet in every font.
-tools/check/check_proved.py names the pictures that differ from the output.
+Each character is drawn at its column, and a wide one takes two. A picture needs no fonts of its reader: frames are lines, and all
+other characters are outlines from FONTS, whose licences allow this. Making pictures needs these fonts, and fontTools.
+tools/check/check_proved.py needs neither. It names the pictures that differ from the output, but doesn't compare outlines.
 """
 import os
 import re
+import sys
 import unicodedata
-from xml.sax.saxutils import escape
+from dataclasses import dataclass
+from xml.sax.saxutils import escape, quoteattr
 
 from project import TOP, text_of
 
 WIDTH, HEIGHT, MARGIN = 9, 20, 12  # the width of a column, the height of a line, and the margin, in pixels
 BACKGROUND, FOREGROUND, FRAME = "#1e1e2e", "#e6e6ef", "#8a8fa8"
+OUTLINE = "outline"  # in place of each outline, to compare pictures without them
 COLORS = {"9": "#ff6b6b", "10": "#7ddc8a", "11": "#f2c94c"}
 # The sides that a frame character reaches: left, right, up, down. 0 is no line, 1 a single one, and 2 a double one.
 SIDES = {
@@ -25,6 +29,41 @@ SIDES = {
 DASHED = "╌┆"
 ROUNDED = "╭╮╰╯"
 SGR = re.compile("\x1b\\[([0-9;]*)m")
+
+
+def arabic_forms():
+    """The characters for Arabic letters between others, by the letter and the name of its form, such as `<medial>`."""
+    parts = {chr(code): unicodedata.decomposition(chr(code)).split() for code in range(0xFE70, 0xFEFD)}
+    return {(chr(int(of[1], 16)), of[0]): character for character, of in parts.items() if len(of) == 2}
+
+
+FORMS = arabic_forms()
+
+
+@dataclass
+class Font:
+    """A font, its files for regular and bold characters, and the Debian package that has them."""
+
+    name: str
+    licence: str
+    columns: int  # of each character that is taken from it
+    size: int  # in pixels
+    regular: str
+    bold: str
+    package: str
+    number: int = -1  # of the font in a file of several
+
+
+# The outline of a character is that of the first font with such columns that has the character.
+DEJAVU, NOTO = "/usr/share/fonts/truetype/dejavu/DejaVu", "/usr/share/fonts/opentype/noto/NotoSansCJK"
+SYMBOLA = "/usr/share/fonts/truetype/ancient-scripts/Symbola_hint.ttf"
+VERA, OFL = "licence of Bitstream Vera", "SIL Open Font License 1.1"
+FONTS = [
+    Font("DejaVu Sans Mono", VERA, 1, 15, f"{DEJAVU}SansMono.ttf", f"{DEJAVU}SansMono-Bold.ttf", "fonts-dejavu-core"),
+    Font("DejaVu Sans", VERA, 1, 15, f"{DEJAVU}Sans.ttf", f"{DEJAVU}Sans-Bold.ttf", "fonts-dejavu-core"),
+    Font("Noto Sans CJK SC", OFL, 2, 17, f"{NOTO}-Regular.ttc", f"{NOTO}-Bold.ttc", "fonts-noto-cjk", 2),
+    Font("Symbola", "free for any use", 2, 16, SYMBOLA, SYMBOLA, "fonts-symbola"),
+]
 
 
 def colored_report():
@@ -77,20 +116,42 @@ def frame(character, left, top):
 
 
 def style_of(codes, style):
-    """The colour and the weight after an SGR sequence with these codes."""
-    color, weight = style
+    """The colour after an SGR sequence with these codes, and whether it makes characters bold."""
+    color, is_bold = style
     if codes in ("", "0"):
-        return "", ""
+        return "", False
     if codes == "1":
-        return color, ' font-weight="bold"'
+        return color, True
     if codes == "39":
-        return "", weight
-    return f' fill="{COLORS[codes.split(";")[-1]]}"', weight
+        return "", is_bold
+    return f' fill="{COLORS[codes.split(";")[-1]]}"', is_bold
 
 
-def draw_line(line, top, lines, texts):
-    """Adds the frame characters of a line to `lines`, which are solid and dashed ones, and its words to `texts`."""
-    style, left = ("", ""), MARGIN
+def in_order(word):
+    """The characters of a word from left to right. Arabic letters have the forms that they have between their neighbours."""
+    if not any(unicodedata.bidirectional(it) in ("R", "AL") for it in word):
+        return word
+    joined = [(first, "<initial>") in FORMS and (second, "<final>") in FORMS for first, second in zip(word, word[1:])]
+    forms = {(False, False): "<isolated>", (False, True): "<initial>", (True, True): "<medial>", (True, False): "<final>"}
+    sides = zip([False, *joined], [*joined, False])
+    return [FORMS.get((letter, forms[it]), letter) for letter, it in zip(word, sides)][::-1]
+
+
+def draw_word(word, left, top, style, outlines):
+    """A word as uses of the outlines of its characters, which are added to `outlines`."""
+    color, is_bold = style
+    uses, at = "", 0
+    for character in in_order(word):
+        name = f"{'b' if is_bold else 'r'}{ord(character):x}"
+        outlines[name] = character, is_bold
+        uses += f'<use href="#{name}" x="{at}"/>'
+        at += columns_of(character) * WIDTH
+    return f'<g aria-label={quoteattr(word)} transform="translate({left} {top + 15})"{color}>{uses}</g>'
+
+
+def draw_line(line, top, lines, words, outlines):
+    """Adds the frame characters of a line to `lines`, which are solid and dashed ones, and its words to `words`."""
+    style, left = ("", False), MARGIN
     for part in re.split("(\x1b\\[[0-9;]*m)", line):
         sequence = SGR.fullmatch(part)
         if sequence:
@@ -100,27 +161,51 @@ def draw_line(line, top, lines, texts):
             if piece in SIDES:
                 lines[piece in DASHED].extend(frame(piece, left, top))
             elif piece.strip(" "):
-                fitted = f'textLength="{columns * WIDTH}" lengthAdjust="spacingAndGlyphs"'
-                texts.append(f'<text x="{left}" y="{top + 15}" {fitted}{"".join(style)}>{escape(piece)}</text>')
+                words.append(draw_word(piece, left, top, style, outlines))
             left += columns * WIDTH
 
 
-def svg(title, drawing):
+def outline_of(character, is_bold, fonts):
+    """The outline of a character, in the middle of its columns, as a path in pixels from the left end of its baseline."""
+    from fontTools.pens.svgPathPen import SVGPathPen
+    from fontTools.pens.transformPen import TransformPen
+
+    for font, opened in zip(FONTS, fonts[is_bold]):
+        name = opened.getBestCmap().get(ord(character))
+        if name and font.columns == columns_of(character):
+            glyph, scale = opened.getGlyphSet()[name], font.size / opened["head"].unitsPerEm
+            aside = (font.columns * WIDTH - glyph.width * scale) / 2
+            pen = SVGPathPen(opened.getGlyphSet(), ntos=lambda it: f"{it:.2f}".rstrip("0").rstrip("."))
+            glyph.draw(TransformPen(pen, (scale, 0, 0, -scale, aside, 0)))
+            return pen.getCommands()
+    raise ValueError(f"no font of FONTS has {character}")
+
+
+def svg(title, drawing, fonts):
+    """A picture. Without fonts, each of its outlines is `OUTLINE`."""
     lines = drawing.splitlines()
     across = max(sum(columns for _, columns in runs_of(SGR.sub("", line))) for line in lines)
     width, height = across * WIDTH + 2 * MARGIN, len(lines) * HEIGHT + 2 * MARGIN
-    frames, texts = [[], []], []
+    frames, words, outlines = [[], []], [], {}
     for at, line in enumerate(lines):
-        draw_line(line, MARGIN + at * HEIGHT, frames, texts)
+        draw_line(line, MARGIN + at * HEIGHT, frames, words, outlines)
+    licences = ", ".join(f"{it.name} ({it.licence})" for it in FONTS)
+    paths = [f'<path id="{name}" d="{outline_of(*outlines[name], fonts) if fonts else OUTLINE}"/>' for name in sorted(outlines)]
     return "\n".join(
         [
             f'<svg xmlns="http://www.w3.org/2000/svg" width="{width}" height="{height}" viewBox="0 0 {width} {height}">',
             f"<title>{escape(title)}</title>",
+            f"<!-- Each outline of a character is from the first of these fonts that has it: {licences}. -->",
+            "<defs>",
+            *paths,
+            "</defs>",
             f'<rect width="{width}" height="{height}" rx="6" fill="{BACKGROUND}"/>',
-            f'<g font-family="DejaVu Sans Mono, Menlo, Consolas, monospace" font-size="15" fill="{FOREGROUND}" stroke-width="1.2">',
-            f'<path fill="none" stroke="{FRAME}" d="{"".join(frames[0])}"/>',
-            f'<path fill="none" stroke="{FRAME}" stroke-dasharray="3 2" d="{"".join(frames[1])}"/>',
-            *texts,
+            f'<g fill="none" stroke="{FRAME}" stroke-width="1.2">',
+            f'<path d="{"".join(frames[0])}"/>',
+            f'<path stroke-dasharray="3 2" d="{"".join(frames[1])}"/>',
+            "</g>",
+            f'<g fill="{FOREGROUND}">',
+            *words,
             "</g>",
             "</svg>",
             "",
@@ -128,16 +213,32 @@ def svg(title, drawing):
     )
 
 
-def pictures():
-    return {f"docs/images/{name}": svg(title, drawing()) for name, (title, drawing) in PICTURES.items()}
+def pictures(fonts=None):
+    return {f"docs/images/{name}": svg(title, drawing(), fonts) for name, (title, drawing) in PICTURES.items()}
+
+
+def without_outlines(picture):
+    return re.sub(r'(<path id="\w+") d="[^"]+"', rf'\1 d="{OUTLINE}"', picture)
 
 
 def wrong_pictures():
-    """The paths of the pictures that differ from the output."""
-    return [path for path, made in pictures().items() if not os.path.exists(f"{TOP}/{path}") or text_of(path) != made]
+    """The paths of the pictures that differ from the output, without their outlines."""
+    return [path for path, made in pictures().items() if not os.path.exists(f"{TOP}/{path}") or without_outlines(text_of(path)) != made]
+
+
+def opened_fonts():
+    """The regular and the bold fonts of FONTS, opened. Ends the program if one isn't installed."""
+    missing = {it.package for it in FONTS if not (os.path.exists(it.regular) and os.path.exists(it.bold))}
+    try:
+        from fontTools.ttLib import TTFont
+    except ImportError:
+        missing.add("python3-fonttools, whose interpreter is /usr/bin/python3")
+    if missing:
+        sys.exit("these packages of Debian are missing: " + ", ".join(sorted(missing)))
+    return [TTFont(it.regular, fontNumber=it.number) for it in FONTS], [TTFont(it.bold, fontNumber=it.number) for it in FONTS]
 
 
 if __name__ == "__main__":
-    for path, made in pictures().items():
+    for path, made in pictures(opened_fonts()).items():
         with open(f"{TOP}/{path}", "w", encoding="utf-8") as file:
             file.write(made)

@@ -115,7 +115,7 @@ class Page:
         self.value(f"new Promise((done) => {{ const look = () => ({condition}) ? done() : setTimeout(look, 20); look(); }})")
 
     def shown(self):
-        """The lines on the page, after the drawing that was asked for last."""
+        """The lines on the page, after the drawing that was requested last."""
         self.wait("!stop && document.getElementById('said').textContent !== 'Drawing'")
         return self.value('[...document.querySelectorAll("#lines > div")].map((it) => it.textContent).join("\\n") + "\\n"')
 
@@ -276,7 +276,7 @@ def try_large(page, program):
 
 
 def try_privacy(page):
-    """The page asked for nothing but itself and its worker, and a request to a server is refused."""
+    """The page requested nothing but itself and its worker, and a request to a server is refused."""
     asked = {it["params"]["request"]["url"] for it in page.events if it.get("method") == "Network.requestWillBeSent"}
     others = [it for it in asked if not it.startswith(("file:", "blob:"))]
     same(others, [], f"the page asked for nothing but itself and its worker ({len(asked)} addresses)")

@@ -1,5 +1,5 @@
 #!/bin/sh
-# Makes the packages, twice, and the same ones. Installs each where nothing else is, and tries it: those of csvtable and for C
+# Makes the packages, twice, and the same ones. Installs each alone, and tries it: those of csvtable and for C
 # in an empty prefix or an empty root of Debian, those for Rust and Python in an empty project of cargo and an empty virtual
 # environment. The tests of the packages must pass, and their example programs must print the same bytes as csvtable, or what
 # they say of themselves. What isn't there, as a compiler or dpkg, is left out, and the last line says what was tried.

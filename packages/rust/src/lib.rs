@@ -41,7 +41,7 @@
 //!
 //! # Features of Cargo
 //!
-//! - `tty`, on by default: colours and attributes are written, and the terminal is asked for its width.
+//! - `tty`, on by default: colours and attributes are written, and the width of the terminal is found.
 //! - `custom_styling`: escape sequences for colours and attributes (SGR) in texts take no columns. It includes `tty`.
 //! - `_debug` and `_integration_test` do nothing. `reexport_crossterm` ends the build with a message.
 #![warn(missing_docs)]

@@ -73,7 +73,7 @@ pub struct CellTable {
 }
 
 /// The drawing of a table of cells. Its lengths and counts add up, and all settings are those of comfy_table.h, so memory alone
-/// can be refused. Where the drawing has more bytes than the room, it is made twice.
+/// can be refused. If the drawing has more bytes than the room, it is made twice.
 pub fn draw_cells(table: &CellTable, indicator: &str, settings: &CellsSettings, room: usize) -> Result<String, OutOfMemory> {
     let (status, drawing) = written(room, |output, room, needed| {
         // SAFETY: the pointers and lengths are those of slices and vectors, which are borrowed for the call and don't overlap, and

@@ -60,7 +60,7 @@ pub struct Table {
 struct Terminal {
     is_denied: bool,
     is_at_stderr: bool,
-    // whether the output is a terminal, once the system was asked
+    // whether the output is a terminal, once this is known
     is_there: OnceLock<bool>,
     enforces_styling: bool,
     styles_text_only: bool,

@@ -1,4 +1,4 @@
-//! What is asked of the terminal and the environment.
+//! Questions to the terminal and the environment.
 
 use std::env;
 use std::io;

@@ -33,9 +33,9 @@ _OUT_OF_MEMORY = 3
 _SIZE = ctypes.c_size_t
 _NUMBER = ctypes.c_uint32
 
-# Stands for no limit.
+# Means that there is no limit.
 NO_LIMIT = 2**64 - 1
-# Stands for no width, as each number above 65535 does.
+# Means that there is no width, as each number above 65535 does.
 NO_WIDTH = 2**32 - 1
 # The style of a frame of one's own.
 OWN_STYLE = 2**32 - 1
@@ -135,7 +135,7 @@ _ROWS_DRAW = _declared("comfy_rows_draw", [*_BYTES, *_SIZES * 5, ctypes.POINTER(
 def draw_csv(data: str | bytes, arguments: Sequence[str] = ()) -> str:
     """The drawing of CSV, by the arguments of the program csvtable, as ["-r", "price", "-w", "60"].
 
-    A text is passed as UTF-8; bytes may be in another encoding, which csvtable finds or is told by "-e". An argument that names a
+    A text is passed as UTF-8; bytes may be in another encoding, which csvtable finds or "-e" names. An argument that names a
     file opens none: messages have the name. The drawing ends with a line feed, and there is no width but that of "-w".
 
     ValueError has the message that csvtable prints, and MemoryError says that memory ran out.

@@ -265,7 +265,7 @@ impl Rows {
     }
 
     /// Sets the terminal's width as the greatest width. This is the value of the variable `COLUMNS`, if it is a number from 1 to
-    /// 65535. Otherwise the terminal is asked, and without a terminal the width is 80.
+    /// 65535. Otherwise it is the width of the terminal, and 80 without a terminal.
     #[cfg(feature = "tty")]
     pub fn terminal_width(self) -> Rows {
         let set = env::var("COLUMNS").ok().and_then(|text| text.parse().ok()).filter(|columns| *columns > 0);
