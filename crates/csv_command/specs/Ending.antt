@@ -133,12 +133,12 @@ others_counted others =
     else if others == 1 then codes " (and 1 more line)"
     else (codes " (and " ++ decimal others) ++ codes " more lines)"
 
--- True if these records are below other lines, which aren't part of the table. Then all records
--- that follow have more fields than the first one. A single additional field isn't enough, unless
--- the first record has only one: it may come from a delimiter at the end of each line.
+-- True if these records are below other lines, which aren't part of the table. Then there are at
+-- least two, and all records that follow have more fields than the first one. A single additional
+-- field isn't enough, unless the first record has only one: a text may have a comma in each line.
 abbrev pub is_below_preamble : LongRecords → Bool
 is_below_preamble longer =
-    longer.lasts
+    (longer.lasts && nat_lt 0 longer.others)
     && ((longer.first_fields == 1) || nat_lt 1 (longer.fields - longer.first_fields))
 
 -- a hint to leave out the lines above `line`

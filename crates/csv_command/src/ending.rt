@@ -263,14 +263,14 @@ fn skip_hint(alloc: Global, line: u64) -> Result<String, AllocError>
     format!(in alloc; "; try --skip {}", line.saturating_sub(1))
 }
 
-// True if these records are below other lines, which aren't part of the table. Then all records
-// that follow have more fields than the first one. A single additional field isn't enough, unless
-// the first record has only one: it may come from a delimiter at the end of each line.
+// True if these records are below other lines, which aren't part of the table. Then there are at
+// least two, and all records that follow have more fields than the first one. A single additional
+// field isn't enough, unless the first record has only one: a text may have a comma in each line.
 fn is_below_preamble(longer: LongRecords) -> bool
     ensures { result ≡ is_below_preamble longer }
 {
     let more = longer.fields.saturating_sub(longer.first_fields);
-    longer.lasts && (longer.first_fields == 1 || more > 1)
+    longer.lasts && longer.others > 0 && (longer.first_fields == 1 || more > 1)
 }
 
 // Appends the number of other records with more fields.

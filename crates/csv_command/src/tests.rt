@@ -318,6 +318,9 @@ fn a_table_below_other_lines(rt: HostRuntime) {
         ..below
     };
     assert_drawn(&rt, &["csvtable", "a.csv"], Some(among), false, text);
+    let text = "csvtable: a.csv: line 3 has 3 fields, the header has 1\n";
+    let single = LongRecords { others: 0, ..below };
+    assert_drawn(&rt, &["csvtable", "a.csv"], Some(single), false, text);
 }
 
 // A terminal gets a reason for an empty output.

@@ -60,7 +60,7 @@ abbrev pub longer_at : (ℕ → ℕ) → List (List Text) → ℕ → LongRecord
 longer_at line_of records at =
     record {
       line = line_of at;
-      fields = field_count records at;
+      fields = filled_len (unwrap_or (slice_get records at) []);
       first_fields = field_count records 0;
       others = count_by (is_longer records) records - 1;
       lasts = count_by (is_longer records) records - 1 == (length records - at) - 1;

@@ -101,7 +101,7 @@ fn found_records(
     }
 }
 
-// Whether these bytes end with a line feed.
+// True if these bytes end with a line feed.
 fn ends_with_line(bytes: &[u8]) -> bool
     ensures { IsTrue result ↔ EndsWithLine bytes.now }
 {

@@ -15,7 +15,7 @@ use comfy_parts::content_split::{is_printable, measure_text_width, sequence_len}
 use std::alloc::{AllocError, Global};
 use std::marker::Model;
 
-// How many terminal columns there are between two tab stops.
+// The terminal columns between two tab stops.
 const TAB_WIDTH: usize = 4;
 
 /// A field as it is drawn. A TAB becomes spaces up to the next multiple of four terminal columns,
@@ -39,15 +39,15 @@ pub fn cleaned(alloc: Global, field: &str, keeps_sequences: bool) -> Result<Stri
     Ok(cleaner.text)
 }
 
-// Whether a field is drawn as it is. Most fields are printable ASCII, which is seen faster.
+// True if a field is drawn as it is. Most fields are printable ASCII, which is found faster.
 fn is_clean(field: &str) -> bool
     ensures { result ≡ not (list_any is_harmful (chars field.now)) }
 {
     is_printable(field.as_bytes()) || !has_harmful(field)
 }
 
-/// Whether a field is one text line that is drawn as it is: no character of it is replaced, and it
-/// has no line feed. Most fields are printable ASCII, which is seen faster.
+/// Returns true if a field is one text line that is drawn as it is: no character of it is
+/// replaced, and it has no line feed. Most fields are printable ASCII, which is found faster.
 #[inline(always)]
 pub fn is_clean_line(field: &str) -> bool
     ensures { result ≡ not (list_any is_replaced (chars field.now)) }
@@ -55,19 +55,19 @@ pub fn is_clean_line(field: &str) -> bool
     is_printable(field.as_bytes()) || !has_replaced(field)
 }
 
-// Whether a field has a character that is replaced. Bytes are looked at first: few scripts have
-// characters that begin as these do.
+// True if a field has a character that is replaced. Bytes are tested first, because few scripts
+// have characters that begin with the same bytes.
 fn has_replaced(field: &str) -> bool
     ensures { result ≡ list_any is_replaced (chars field.now) }
 {
     may_hold_replaced(field.as_bytes()) && field.chars().any(is_replaced)
 }
 
-// Whether there is a byte with which the UTF-8 of a character may begin that is replaced.
+// True if there is a byte that may begin the UTF-8 of a character that is replaced.
 fn may_hold_replaced(bytes: &[u8]) -> bool
     ensures { result ≡ list_any may_begin_replaced bytes.now }
 {
-    // All bytes are looked at without a test between them, which is faster.
+    // A loop over all bytes without a branch is faster.
     let mut found = false;
     for byte in bytes {
         found |= may_begin_replaced(*byte);
@@ -75,7 +75,7 @@ fn may_hold_replaced(bytes: &[u8]) -> bool
     found
 }
 
-// Whether the UTF-8 of a character that is replaced may begin with a byte.
+// True if a byte may begin the UTF-8 of a character that is replaced.
 fn may_begin_replaced(byte: u8) -> bool
     ensures { result ≡ may_begin_replaced byte }
 {
@@ -88,21 +88,21 @@ fn has_harmful(field: &str) -> bool
     field.chars().any(is_harmful)
 }
 
-// Whether a character mustn't be drawn: one that is drawn as another, and breaks no line.
+// True if a character mustn't be drawn: another one is drawn in its place, and it breaks no line.
 fn is_harmful(c: char) -> bool
     ensures { result ≡ is_harmful c }
 {
     is_replaced(c) && c != '\n'
 }
 
-/// Whether a character is drawn as another one.
+/// Returns true if another character is drawn in place of this one.
 fn is_replaced(c: char) -> bool
     ensures { result ≡ is_replaced c }
 {
     c.is_control() || turns_direction(c)
 }
 
-// Whether a character turns the direction of the text after it.
+// True if a character changes the direction of the text after it.
 fn turns_direction(c: char) -> bool
     ensures { result ≡ turns_direction c }
 {

@@ -1,4 +1,4 @@
-//! How many fields the first records of a text have.
+//! The numbers of fields of the first records of a text.
 
 ghost use Rattle.std.specs.Prelude.{◌≡◌, IfOk, option_map, true};
 ghost use Rattle.csv.specs.Machine.{ends_with, in_field, start_field};
@@ -21,10 +21,10 @@ enum State {
     AfterQuote,
 }
 
-/// How many fields the first records have, at most this many records.
+/// The number of fields of each of the first `most` records.
 ///
-/// It counts as csv's reader does, which would fill tables first: for a few records these take
-/// more time than all the rest.
+/// Fields are counted as the reader of the crate `csv` would count them. That reader fills tables
+/// first, which takes longer than everything else for a few records.
 pub(crate) fn field_counts(
     alloc: Global,
     text: &str,
@@ -47,7 +47,7 @@ pub(crate) fn field_counts(
     Ok(counts)
 }
 
-/// How many fields the first record of these bytes has, and the rest after it.
+/// The number of fields of the first record of these bytes, and the bytes after it.
 pub(crate) fn first_count(bytes: &[u8], delimiter: u8, has_quotes: bool) -> Option<(usize, &[u8])>
     ensures { option_map (λ found. (found.0, found.1.now)) result
         ≡ count_from (config_for delimiter has_quotes) st.StartRecord 1 bytes.now }
@@ -101,7 +101,7 @@ fn step(state: State, byte: u8, delimiter: u8, has_quotes: bool) -> Option<(Stat
     }
 }
 
-// The same at the beginning of a field.
+// The state after a byte at the beginning of a field, and true if a record ends before this byte.
 fn start_field(byte: u8, delimiter: u8, has_quotes: bool) -> Option<(State, bool)>
     ensures { option_map (λ next. (state_at next.0, next.1)) result
         ≡ after_step (start_field (config_for delimiter has_quotes) byte) }
@@ -113,7 +113,7 @@ fn start_field(byte: u8, delimiter: u8, has_quotes: bool) -> Option<(State, bool
     }
 }
 
-// The same in a field without quotes, in which a quote is like another byte.
+// The state after a byte inside an unquoted field, where a quote is an ordinary byte.
 fn in_field(byte: u8, delimiter: u8) -> Option<(State, bool)>
     ensures { option_map (λ next. (state_at next.0, next.1)) result
         ≡ after_step (in_field (config_for delimiter true) byte) }
@@ -127,7 +127,7 @@ fn in_field(byte: u8, delimiter: u8) -> Option<(State, bool)>
     }
 }
 
-// Whether a line ends at a byte.
+// True if a byte ends a line.
 pub(crate) fn ends_line(byte: u8) -> bool
     ensures { result ≡ ends_with term.CRLF byte }
 {

@@ -22,29 +22,29 @@ pub enum DecimalMark {
 pub struct Points {
     /// The mark.
     pub mark: DecimalMark,
-    /// How many characters the longest fraction has, with the mark.
+    /// The characters of the longest fraction, including the mark.
     pub longest: usize,
 }
 
-/// How the fields of a column use a mark.
+/// The use of a mark by the fields of a column.
 #[derive(Clone, Copy, Debug)]
 pub struct MarkUse {
-    /// Whether a field can be read in no other way than with this mark.
+    /// True if a field can only be read with this mark.
     pub is_decided: bool,
-    /// Whether all fields can be read with it.
+    /// True if all fields can be read with this mark.
     pub is_read: bool,
-    /// How many characters the longest fraction has, with the mark.
+    /// The characters of the longest fraction, including the mark.
     pub longest: usize,
 }
 
 /// The signs of a decimal mark in the fields of a column.
 #[derive(Clone, Copy, Debug)]
 pub struct ColumnMarks {
-    /// Whether all are neutral, or numbers that end with a digit and have no exponent.
+    /// True if all fields are neutral, or numbers that end with a digit and have no exponent.
     pub are_plain: bool,
-    /// How they use a point.
+    /// The use of a point.
     pub point: MarkUse,
-    /// How they use a comma.
+    /// The use of a comma.
     pub comma: MarkUse,
 }
 
@@ -100,7 +100,7 @@ impl MarkUse {
         }
     }
 
-    // Whether the mark is that of the column, beside the use of the other one.
+    // True if this mark is the one of the column, given the use of the other mark.
     fn has_mark(self, other: MarkUse) -> bool
         ensures { result ≡ has_mark self other }
     {
@@ -165,7 +165,7 @@ fn ends_with_digit(field: &str) -> bool
     matches!(split_last(field), Some((_, c)) if c.is_ascii_digit())
 }
 
-// Whether the mark that a field has can be read in no other way than before a fraction.
+// True if the mark of a field can only be the beginning of a fraction.
 fn decides(field: &str, fraction: Fraction) -> bool
     ensures { result ≡ fraction.is_read && not (may_be_whole (digits_in field.now)) }
 {
@@ -180,7 +180,7 @@ fn digits_in(field: &str) -> &str
     digits
 }
 
-// Whether digits may be groups of a whole number.
+// True if digits may be groups of a whole number.
 fn may_be_whole(digits: &str) -> bool
     ensures { result ≡ may_be_whole digits.now }
 {

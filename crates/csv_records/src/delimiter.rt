@@ -61,9 +61,10 @@ pub(crate) fn delimited<'a>(
     }
 }
 
-/// Whether a text whose lines are complete shows its delimiter, whatever follows: a byte is given
-/// that is no line feed, or its first line names one, or each that is tried gives it more records
-/// than are looked at. If spaces separate fields, a text is read whole.
+/// Returns true if a text of complete lines shows its delimiter, whatever follows. It does so if
+/// the delimiter is a given byte other than a line feed, if the first line names it or else it is
+/// TAB, or if each byte that is tried gives more records than are looked at. If spaces separate
+/// fields, a text is read whole.
 pub(crate) fn shows_delimiter(
     alloc: Global,
     text: &str,
@@ -119,7 +120,7 @@ pub fn only_ascii(word: &[u8]) -> Option<u8>
 // The delimiters that are tried, in this order.
 const TRIED: [u8; 4] = [b'\t', b';', b',', b'|'];
 
-// How many records are looked at.
+// The number of records that are looked at.
 const FIRST_RECORDS: usize = 10;
 
 // The first of them by which the most records agree, a comma if none do.
@@ -139,7 +140,7 @@ fn found_delimiter(alloc: Global, text: &str, has_quotes: bool) -> Result<u8, Al
     Ok(found)
 }
 
-// How many records have the commonest number of fields, of those above 1.
+// The number of records with the most common number of fields above 1.
 fn agreement(counts: &[usize]) -> usize
     ensures { result ≡ agreement counts.now }
 {
@@ -152,7 +153,7 @@ fn agreement(counts: &[usize]) -> usize
     most_alike
 }
 
-// How many of some numbers are this one.
+// The number of elements that are equal to `wanted`.
 fn alike(counts: &[usize], wanted: usize) -> usize
     ensures { result ≡ count_by (λ n. n == wanted) counts.now }
 {

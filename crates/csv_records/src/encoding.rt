@@ -16,7 +16,7 @@ use crate::text::{line_number, text_of};
 use std::alloc::Global;
 use std::marker::Model;
 
-/// How the characters of an input are written as bytes.
+/// An encoding of the characters of an input as bytes.
 #[derive(Clone, Copy, Debug, PartialEq, Eq)]
 pub enum Encoding {
     /// UTF-8. A byte-order mark is part of the text.
@@ -86,7 +86,7 @@ pub(crate) fn encoding_of(encoding: Option<Encoding>, input: &[u8]) -> Encoding
     }
 }
 
-/// Whether a byte-order mark at the front says that the input is UTF-16.
+/// Returns true if the input begins with a byte-order mark of UTF-16.
 pub(crate) fn is_marked(input: &[u8]) -> bool
     ensures { result ≡ is_some (marked_order input.now) }
 {

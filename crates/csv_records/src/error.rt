@@ -20,8 +20,8 @@ pub enum DecodeError {
     NotUtf8 {
         /// The line of the first byte that is no text.
         line: u64,
-        /// Whether each byte is such as a text in Windows-1252 has: no control character but TAB,
-        /// line feed, form feed and carriage return, and none of the five that it leaves open.
+        /// True if a text in Windows-1252 could have each of the bytes: no control character except
+        /// TAB, line feed, form feed and carriage return, and no undefined byte.
         may_be_cp1252: bool,
     },
     /// The input isn't UTF-16: in this line is the first surrogate without a partner, or an odd

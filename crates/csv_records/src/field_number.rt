@@ -15,24 +15,24 @@ use comfy_parts::content_split::are_digits;
 /// The reading of a field as a number.
 #[derive(Clone, Copy, Debug)]
 pub struct FieldNumber {
-    /// Whether it is one.
+    /// True if the field is a number.
     pub is_number: bool,
-    /// Whether it is one without exponent.
+    /// True if the field is a number without exponent.
     pub is_decimal: bool,
-    /// Whether it has no characters but digits, decimal marks, `-` and `+`.
+    /// True if the field has only digits, decimal marks, `-` and `+`.
     pub is_bare: bool,
-    /// How its digits use a point.
+    /// The use of a point by its digits.
     pub point: Fraction,
-    /// How its digits use a comma.
+    /// The use of a comma by its digits.
     pub comma: Fraction,
 }
 
-/// How the digits of a field use a decimal mark.
+/// The use of a decimal mark by the digits of a field.
 #[derive(Clone, Copy, Debug)]
 pub struct Fraction {
-    /// How many characters the mark and the digits after it have: none without the mark.
+    /// The characters of the mark and the digits after it; 0 without the mark.
     pub len: usize,
-    /// Whether the digits can be read with this mark. They can if they don't have it.
+    /// True if the digits can be read with this mark, also if they don't have it.
     pub is_read: bool,
 }
 
@@ -42,9 +42,9 @@ const NO_FRACTION: Fraction = Fraction {
     is_read: true,
 };
 
-/// Whether a field is a number: digits, perhaps with a sign, a decimal mark, an exponent and groups
-/// of three, and with one currency, or `%` or a unit of sizes or times. Such a number without sign
-/// may be in parentheses. Spaces around it don't count. Names such as `0042` aren't numbers, nor
+/// Returns true if a field is a number: digits, perhaps with a sign, a decimal mark, an exponent
+/// and groups, and with one currency, or `%` or a unit of sizes or times. A number without sign may
+/// be in parentheses. Spaces around it don't count. Names such as `0042` aren't numbers, nor
 /// are dates, addresses and versions.
 ///
 /// ```
@@ -112,7 +112,7 @@ fn figure_number(digits: &str, is_bare: bool) -> FieldNumber
     }
 }
 
-// The same for digits with at most one mark. For other texts the result has no meaning.
+// The reading of digits with at most one mark. For other texts the result has no meaning.
 fn plain_number(digits: &[u8], is_bare: bool) -> Option<FieldNumber>
     ensures value { IfSome result (λ number. number
         ≡ number_with (is_figure digits.now) is_bare digits.now) }
@@ -132,7 +132,7 @@ fn plain_number(digits: &[u8], is_bare: bool) -> Option<FieldNumber>
     }
 }
 
-// How many digits are in front.
+// The number of digits at the front.
 fn digit_count(bytes: &[u8]) -> usize
     ensures { result ≡ prefix_len is_ascii_digit bytes.now }
 {
@@ -187,7 +187,7 @@ fn marked_number(digits: &str, is_bare: bool) -> FieldNumber
     }
 }
 
-// Whether a text is a decimal with an exponent.
+// True if a text is a decimal with an exponent.
 fn has_exponent(text: &str) -> bool
     ensures { result ≡ is_scientific (halves 0x65 text.now)
         || is_scientific (halves 0x45 text.now) }
@@ -195,7 +195,7 @@ fn has_exponent(text: &str) -> bool
     is_scientific(text, 'e') || is_scientific(text, 'E')
 }
 
-// How digits use a mark.
+// The use of a mark by digits.
 fn fraction_in(digits: &str, mark: u8) -> Fraction
     requires { mark < 128 }
     ensures { result ≡ fraction_of (halves mark digits.now) }
@@ -207,7 +207,7 @@ fn fraction_in(digits: &str, mark: u8) -> Fraction
     }
 }
 
-// How many characters follow the whole number: the mark and the digits of the fraction.
+// The characters after the whole number: the mark and the digits of the fraction.
 pub(crate) fn fraction_len(digits: &str, mark: u8) -> usize
     ensures { result ≡ fraction_len (halves mark digits.now) }
 {

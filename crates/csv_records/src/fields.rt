@@ -106,7 +106,7 @@ impl Fields {
         }
     }
 
-    /// How many there are.
+    /// The number of fields.
     pub(crate) fn len(&self) -> usize
         ensures { result ≡ length (fields_of self.now) }
     {

@@ -36,7 +36,7 @@ pub(crate) fn split_line(text: &str) -> (&str, &str)
     (line, rest.split_at(end_len(rest.as_bytes())).1)
 }
 
-// How many bytes are before the first line end.
+// The number of bytes before the first line end.
 fn line_len(bytes: &[u8]) -> usize
     ensures { result ≡ line_len bytes.now }
 {
@@ -46,7 +46,7 @@ fn line_len(bytes: &[u8]) -> usize
         .count()
 }
 
-// How many bytes the line end in front has.
+// The number of bytes of the line end at the front.
 fn end_len(bytes: &[u8]) -> usize
     ensures { result ≡ end_len bytes.now }
 {

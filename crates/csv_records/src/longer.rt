@@ -1,6 +1,6 @@
-//! Records that have more fields than the first one. Empty fields at the end of a record don't count.
+//! Records that have more fields than the first one, not counting empty ones at their ends.
 
-ghost use Rattle.std.specs.Prelude.{◌≡◌, ◌≢◌, nat_lt};
+ghost use Rattle.std.specs.Prelude.{◌≡◌, ◌≢◌, [], nat_lt, slice_get, unwrap_or};
 ghost use Rattle.std.specs.List.{count_by, position};
 ghost use Rattle.csv_records.specs.Delimiter.{delimited};
 ghost use Rattle.csv_records.specs.Input.{config_for};
@@ -17,17 +17,18 @@ use crate::text::{line_before, without_utf8_mark};
 pub struct LongRecords {
     /// The line in which the first of them begins. Lines are counted as for `DecodeError`.
     pub line: u64,
-    /// How many fields that one has.
+    /// The number of its fields, not counting empty ones at its end.
     pub fields: usize,
-    /// How many the first record has.
+    /// The number of fields of the first record.
     pub first_fields: usize,
-    /// How many others have more than the first.
+    /// The number of other records that have more fields than the first.
     pub others: usize,
-    /// Whether the others are all that follow.
+    /// True if the others are all records that follow.
     pub lasts: bool,
 }
 
-/// Those of these records of a text, which follow its line that names the delimiter.
+/// The report on the records of a text that have more fields than the first one. `rest` is the text
+/// without a line that names the delimiter.
 pub(crate) fn longer_records(
     records: &Rows<'_>,
     text: &str,
@@ -49,14 +50,14 @@ pub(crate) fn longer_records(
     let others = count_longer(records, first_fields).saturating_sub(1);
     Some(LongRecords {
         line: line_before(options.skip, text, from.len()),
-        fields: fields_at(records, before),
+        fields: filled_at(records, before),
         first_fields,
         others,
         lasts: others == records.len().saturating_sub(before).saturating_sub(1),
     })
 }
 
-// How many fields the record at a position has.
+// The number of fields of the record at a position.
 fn fields_at(records: &Rows<'_>, position: usize) -> usize
     ensures { result ≡ field_count records.now position }
 {
@@ -66,14 +67,24 @@ fn fields_at(records: &Rows<'_>, position: usize) -> usize
     }
 }
 
-// How many records are before the first that has more fields than this many.
+// The number of fields of the record at a position, not counting empty ones at its end.
+fn filled_at(records: &Rows<'_>, position: usize) -> usize
+    ensures { result ≡ filled_len (unwrap_or (slice_get records.now position) []) }
+{
+    match records.get(position) {
+        Some(record) => record.filled_len(),
+        None => 0,
+    }
+}
+
+// The position of the first record that has more than `most` fields.
 fn first_longer(records: &Rows<'_>, most: usize) -> Option<usize>
     ensures { result ≡ position (λ fields. nat_lt most (filled_len fields)) records.now }
 {
     records.iter().position(|record| record.has_more(most))
 }
 
-// How many records have more fields than this many.
+// The number of records that have more than `most` fields.
 fn count_longer(records: &Rows<'_>, most: usize) -> usize
     ensures { result ≡ count_by (λ fields. nat_lt most (filled_len fields)) records.now }
 {
@@ -83,7 +94,7 @@ fn count_longer(records: &Rows<'_>, most: usize) -> usize
         .count()
 }
 
-// These bytes from the record on before which this many are.
+// The bytes without the first `before` records.
 fn skip_records(bytes: &[u8], before: usize, delimiter: u8, has_quotes: bool) -> &[u8]
     ensures { result.now ≡ skip_records (config_for delimiter has_quotes) before bytes.now }
 {
@@ -104,7 +115,7 @@ fn skip_record(bytes: &[u8], delimiter: u8, has_quotes: bool) -> &[u8]
     }
 }
 
-// These bytes without the line ends in front.
+// The bytes without the line ends at the front.
 fn skip_newlines(bytes: &[u8]) -> &[u8]
     ensures { result.now ≡ skip_newlines bytes.now }
 {

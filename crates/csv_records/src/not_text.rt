@@ -47,7 +47,7 @@ pub enum NotText {
     Binary(u64),
 }
 
-/// The kind of an input, if no encoding is asked for and no mark says that it is UTF-16.
+/// The kind of an input, if no encoding is chosen and no mark says that it is UTF-16.
 /// JSON and NULs count below the lines that are left out.
 pub(crate) fn not_text_for(encoding: Option<Encoding>, skip: usize, input: &[u8]) -> Option<NotText>
     ensures { result ≡ not_text_for encoding skip input.now }
@@ -90,7 +90,7 @@ fn not_text_by_front(input: &[u8]) -> Option<NotText>
     }
 }
 
-// Whether these bytes are in front of others.
+// True if bytes begin with these.
 fn begins_with(bytes: &[u8], front: &[u8]) -> bool
     ensures { result ≡ begins_with front.now bytes.now }
 {
@@ -117,14 +117,14 @@ fn is_like_json(bytes: &[u8]) -> bool
     begins_json(first, without_front(&first[first.len().min(1)..]))
 }
 
-// These bytes without the white space of ASCII in front.
+// The bytes without the white space of ASCII at the front.
 fn without_front(bytes: &[u8]) -> &[u8]
     ensures { result.now ≡ without_front bytes.now }
 {
     bytes.trim_ascii_start()
 }
 
-// Whether JSON begins with the first bytes of both, and no header does.
+// True if JSON may begin with the first bytes of both, and a header of CSV doesn't.
 fn begins_json(first: &[u8], second: &[u8]) -> bool
     ensures { result ≡ begins_json first.now second.now }
 {
@@ -134,7 +134,7 @@ fn begins_json(first: &[u8], second: &[u8]) -> bool
     )
 }
 
-// Whether an HTML page begins so.
+// True if bytes begin as an HTML page does.
 fn is_html(bytes: &[u8]) -> bool
     ensures { result ≡ is_html bytes.now }
 {
@@ -142,7 +142,7 @@ fn is_html(bytes: &[u8]) -> bool
     begins_with_word(first, "<!doctype html") || begins_with_word(first, "<html")
 }
 
-// Whether a word is in front, in any case of letters.
+// True if bytes begin with a word, in any case of letters.
 fn begins_with_word(bytes: &[u8], word: &str) -> bool
     ensures { result ≡ begins_with_word word.now bytes.now }
 {
@@ -159,7 +159,7 @@ fn not_text_by_nuls(above: usize, bytes: &[u8]) -> Option<NotText>
     nul_line(above, bytes).map(NotText::Binary)
 }
 
-// Whether of the first four bytes every second one is NUL, and no other.
+// True if every second one of the first four bytes is NUL, and no other.
 fn is_like_utf16(bytes: &[u8]) -> bool
     ensures { result ≡ is_like_utf16 bytes.now }
 {

@@ -1,4 +1,4 @@
-//! Which fields are numbers.
+//! Fields that are numbers.
 
 ghost use Rattle.std.specs.Prelude.{◌≡◌, ◌∷◌, ◌++◌, ◌-◌, ◌<◌, ◌==◌, ◌&&◌, ◌||◌, ℕ, Bool, [], IfNone, IfSome, bytes_eq, chars, encode_utf8, length, not};
 ghost use Rattle.std.specs.List.{list_any, position, prefix_len, suffix_len};
@@ -42,7 +42,7 @@ const CURRENCY_CODES: [&str; 161] = [
     "YER", "ZAR", "ZMW", "ZWG", "ZWL",
 ];
 
-// Whether these may be around a figure.
+// True if these texts may be around a figure.
 pub(crate) fn may_stand_around(front: &str, back: &str) -> bool
     ensures { result ≡ is_signed front.now back.now || is_enclosed front.now back.now }
 {
@@ -128,7 +128,7 @@ pub(crate) fn is_inner(byte: u8) -> bool
     byte.is_ascii_digit() || byte == b'.' || byte == b','
 }
 
-// Whether these may be around a figure, with a sign or without.
+// True if these texts may be around a figure without parentheses, with a sign or without.
 fn is_signed(front: &str, back: &str) -> bool
     ensures { result ≡ is_signed front.now back.now }
 {
@@ -138,7 +138,8 @@ fn is_signed(front: &str, back: &str) -> bool
     }
 }
 
-// The same without a sign in front: it may be directly after the figure or before it.
+// True if these texts may be around a figure without a sign at the front. The sign may be directly
+// before or after the figure.
 fn is_signed_later(front: &str, back: &str) -> bool
     ensures { result ≡ is_signed_later front.now back.now }
 {
@@ -148,7 +149,7 @@ fn is_signed_later(front: &str, back: &str) -> bool
     }
 }
 
-// Whether these may be around a figure in parentheses.
+// True if these texts may be around a figure in parentheses.
 fn is_enclosed(front: &str, back: &str) -> bool
     ensures { result ≡ is_enclosed front.now back.now }
 {
@@ -337,7 +338,7 @@ fn is_currency(c: char) -> bool
     }
 }
 
-// Whether `0` and a digit are in front.
+// True if a text begins with `0` and another digit.
 pub(crate) fn is_name(bytes: &[u8]) -> bool
     ensures { result ≡ is_name bytes.now }
 {
@@ -488,14 +489,14 @@ fn is_group_len(size: usize, is_first: bool, count: usize) -> bool
     }
 }
 
-// Whether a text is one of these words.
+// True if a text is one of these words.
 fn is_among(words: &[&str], text: &str) -> bool
     ensures { result ≡ list_any (λ word. bytes_eq text.now word.now) words.now }
 {
     words.iter().any(|word| text == *word)
 }
 
-// Whether a capital letter of ASCII is in front.
+// True if a text begins with a capital letter of ASCII.
 fn begins_with_capital(bytes: &[u8]) -> bool
     ensures { result ≡ begins is_ascii_uppercase bytes.now }
 {
@@ -512,8 +513,8 @@ pub(crate) fn is_digits(bytes: &[u8]) -> bool
     !bytes.is_empty() && are_digits(bytes)
 }
 
-/// Whether a field says nothing of its column: it is empty, a dash, two points, or a word for a
-/// missing value. Spaces around it don't count.
+/// Returns true if a field has no value: it is empty, a dash, two points, or a word for a missing
+/// value. Spaces around it don't count.
 pub fn is_neutral(field: &str) -> bool
     ensures { result ≡ is_neutral field.now }
 {
@@ -549,7 +550,7 @@ fn is_missing(text: &str) -> bool
         || is_word(text, "<null>")
 }
 
-// The same word, in any case of letters.
+// True if a text is this word, in any case of letters.
 fn is_word(text: &str, word: &str) -> bool
     ensures { result ≡ is_word word.now text.now }
 {

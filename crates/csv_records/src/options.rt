@@ -3,21 +3,21 @@
 use crate::delimiter::Delimiter;
 use crate::encoding::Encoding;
 
-/// How an input is read.
+/// Settings for reading an input.
 #[derive(Clone, Copy, Debug)]
 pub struct InputOptions {
-    /// How the input is written as bytes. If this is none, an input that begins with a byte-order
+    /// The encoding of the input. If it is `None`, an input that begins with a byte-order
     /// mark of UTF-16 is UTF-16, and any other one is UTF-8.
     pub encoding: Option<Encoding>,
-    /// How many lines at the input's front are left out, in whatever encoding they are. A line ends
-    /// at a line feed, a carriage return, or both, also between quotes.
+    /// The number of lines at the beginning of the input that are left out, in any encoding. A line
+    /// ends at a line feed, a carriage return, or both, also between quotes.
     pub skip: usize,
     /// The delimiter between fields.
     pub delimiter: Delimiter,
-    /// Whether the first line is a header. It only counts if spaces separate fields, which are then
-    /// parted as the header's names are.
+    /// True if the first line is a header. It matters only if spaces separate fields: the header
+    /// then says how many columns there are.
     pub has_header: bool,
-    /// Whether quotes around a field aren't part of it. A quote that opens one and is never closed
-    /// is refused then.
+    /// True if quotes around a field aren't part of it. A quote that opens a field and is never
+    /// closed is then an error.
     pub has_quotes: bool,
 }

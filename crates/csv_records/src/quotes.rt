@@ -47,7 +47,7 @@ fn unclosed_in(bytes: &[u8], delimiter: u8) -> Option<usize>
     None
 }
 
-// Whether a quote at this place, which is outside quotes, opens a field.
+// True if a quote at a place outside quotes opens a field.
 fn is_opening(bytes: &[u8], at: usize, delimiter: u8) -> bool
     requires within { at ≤ length bytes.now }
     ensures { result ≡ is_opening delimiter bytes.now at }
@@ -55,7 +55,7 @@ fn is_opening(bytes: &[u8], at: usize, delimiter: u8) -> bool
     at == 0 || ends_field(bytes[at - 1], delimiter)
 }
 
-// Whether a field, or a record, ends at a byte like this outside quotes.
+// True if a byte outside quotes ends a field or a record.
 fn ends_field(byte: u8, delimiter: u8) -> bool
     ensures { result ≡ ends_field delimiter byte }
 {

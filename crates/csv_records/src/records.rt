@@ -88,7 +88,7 @@ impl Records {
         Ok(Some(Records { fields, places }))
     }
 
-    /// All of them, in their order.
+    /// All records, in their order.
     pub fn rows(&self) -> Rows<'_>
         ensures { result ≡ self.now }
     {
@@ -121,14 +121,14 @@ impl<'a> Model for Rows<'a> {
 }
 
 impl<'a> Rows<'a> {
-    /// How many there are.
+    /// The number of records.
     pub fn len(&self) -> usize
         ensures { result ≡ length self.now }
     {
         self.places.len()
     }
 
-    /// Whether there are none.
+    /// Returns true if there are no records.
     pub fn is_empty(&self) -> bool
         ensures { result ≡ (length self.now == 0) }
     {
@@ -142,7 +142,7 @@ impl<'a> Rows<'a> {
         let _ = &self.fields;
     }
 
-    /// The same records, to go over them.
+    /// An iterator over the same records.
     pub fn iter(&self) -> Rows<'a>
         ensures { result ≡ self.now }
     {
@@ -240,14 +240,14 @@ impl<'a> Model for Record<'a> {
 }
 
 impl<'a> Record<'a> {
-    /// How many fields there are.
+    /// The number of fields.
     pub fn len(&self) -> usize
         ensures { result ≡ length self.now }
     {
         self.place.end - self.place.start
     }
 
-    /// How many fields there are up to the last that isn't empty.
+    /// The number of fields up to the last that isn't empty.
     pub fn filled_len(&self) -> usize
         ensures { result ≡ filled_len self.now }
     {
@@ -373,9 +373,9 @@ fn reader_of(alloc: Global, text: &str, delimiter: u8, has_quotes: bool) -> Read
 pub struct FirstRecords {
     /// Its first records.
     pub records: Records,
-    /// How many records it has.
+    /// The number of records in the text.
     pub count: usize,
-    /// Those of the first records that have more fields than the first of all.
+    /// The report on the first records that have more fields than the first of all.
     pub longer: Option<LongRecords>,
 }
 
@@ -421,7 +421,7 @@ pub(crate) fn first_records_of(
     Err(RecordsError::OutOfMemory)
 }
 
-// Whether the delimiter split a character of these fields, which one of ASCII doesn't.
+// True if the delimiter split a character of these fields. One of ASCII never does.
 fn is_split(delimiter: u8, fields: &ByteRecord) -> Result<bool, AllocError>
     ensures split { IfOk result (λ is.
         IsTrue is → (128 ≤ delimiter) × ¬ (AllText (fields_of fields.now))) }
@@ -488,7 +488,7 @@ fn places_for(
     })
 }
 
-// These texts as fields.
+// Makes fields of texts.
 fn fields_from(alloc: Global, texts: &[&str]) -> Result<Fields, AllocError>
     ensures fields { IfOk result (λ made. fields_of made ≡ map (λ text. text.now) texts.now) }
     ensures text { IfOk result (λ made. AllText (fields_of made)) }

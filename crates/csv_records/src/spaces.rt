@@ -28,8 +28,8 @@ pub(crate) fn tabbed_text(alloc: Global, text: &str, has_header: bool) -> Result
 }
 
 /// Lines with TABs between their fields. If all fields are below the names of the first line
-/// (`name_starts`), they are cut there. Otherwise runs of spaces and TABs part them; white space of
-/// ASCII at the ends of a line doesn't count. The last column takes all that is left of a line, with
+/// (`name_starts`), they are cut there. Otherwise runs of spaces and TABs separate them, and white
+/// space of ASCII at the ends of a line is ignored. The last column takes the rest of a line, with
 /// a space for each TAB.
 ///
 /// Below names there are as many columns as the first line has fields, and no more than the fullest
@@ -102,7 +102,8 @@ fn trimmed_line(line: &str) -> &str
     line.trim_ascii()
 }
 
-// How many gaps part columns: as many as the first line has, and no more than the fullest below it.
+// The number of gaps between columns: as many as the first line has, but no more than the fullest
+// line below it.
 fn column_gaps(lines: &[&str]) -> usize
     ensures { result ≡ column_gaps (map (λ line. line.now) lines.now) }
 {
@@ -121,7 +122,7 @@ fn name_gap(lines: &[&str]) -> &'static str
     if lacks_name(lines) { "\t" } else { "" }
 }
 
-// Whether the first line alone begins with a gap, and the fullest below it has one field more.
+// True if only the first line begins with a gap, and the fullest line below it has one field more.
 fn lacks_name(lines: &[&str]) -> bool
     ensures { result ≡ lacks_name (map (λ line. line.now) lines.now) }
 {
@@ -155,7 +156,7 @@ fn is_indented(line: &str) -> bool
     }
 }
 
-// How many gaps the fullest of some lines has.
+// The number of gaps of the fullest line.
 fn most_gaps(lines: &[&str]) -> usize
     ensures { result ≡ most_gaps (map (λ line. line.now) lines.now) }
 {
@@ -166,7 +167,7 @@ fn most_gaps(lines: &[&str]) -> usize
     most
 }
 
-// How many gaps the line has that has the fewest.
+// The number of gaps of the line with the fewest gaps.
 fn fewest_gaps(lines: &[&str]) -> usize
     ensures { result ≡ fewest_gaps (map (λ line. line.now) lines.now) }
 {
@@ -180,14 +181,14 @@ fn fewest_gaps(lines: &[&str]) -> usize
     fewest
 }
 
-// How many gaps a line has.
+// The number of gaps of a line.
 fn line_gaps(line: &str) -> usize
     ensures { result ≡ line_gaps line.now }
 {
     gaps_of(trimmed_line(line).as_bytes())
 }
 
-// How many gaps are in a line.
+// The number of gaps of a line that has no white space at its ends.
 fn gaps_of(line: &[u8]) -> usize
     ensures { result ≡ gaps_from false line.now }
 {
@@ -236,14 +237,14 @@ fn split_field(line: &str) -> (&str, &str)
     (field, rest.split_at(gap_len(rest.as_bytes())).1)
 }
 
-// How many bytes are before the first gap.
+// The number of bytes before the first gap.
 fn field_len(bytes: &[u8]) -> usize
     ensures { result ≡ position_or_len is_gap bytes.now }
 {
     bytes.iter().take_while(|byte| !is_gap(**byte)).count()
 }
 
-// How many bytes the gap in front has.
+// The number of bytes of the gap at the front.
 fn gap_len(bytes: &[u8]) -> usize
     ensures { result ≡ prefix_len is_gap bytes.now }
 {

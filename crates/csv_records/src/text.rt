@@ -22,7 +22,7 @@ pub(crate) fn text_of(bytes: &[u8], above: usize) -> Result<&str, DecodeError>
     }
 }
 
-// Whether all bytes are such as a text in Windows-1252 has.
+// True if a text in Windows-1252 could have each of the bytes.
 fn is_like_cp1252(bytes: &[u8]) -> bool
     ensures { result ≡ is_like_cp1252 bytes.now }
 {

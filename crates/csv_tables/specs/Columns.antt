@@ -34,7 +34,8 @@ count_of names rows =
 abbrev pub filled_count : List Text → List (List Text) → ℕ
 filled_count names rows =
     min (count_of names rows)
-    (max 1 (fold (λ (n : ℕ) (fields : List Text). max n (filled_len fields)) (filled_len names) rows))
+    (max 1
+    (fold (λ (n : ℕ) (fields : List Text). max n (filled_len fields)) (filled_len names) rows))
 
 -- what is seen of a record's fields: where sequences are kept, they aren't
 abbrev pub seen : Bool → List Text → List Text

@@ -82,7 +82,7 @@ longer_ones = refl
 
 -- empty fields at the end of a record don't count, and others do
 empty_at_the_end : map (λ (input : String). longer_records below_two (codes input) (records_from (config_for 0x2C true) 9 st.StartRecord (strip_bom (codes input))))
-    ("a,b\n1,2,\n3,4,,\n" ∷ "a,b\n1,2,\n3,,5,\n" ∷ "a,b,\n1,2,3,\n" ∷ []) ≡ None ∷ Some (record { line = 5; fields = 4; first_fields = 2; others = 0; lasts = true }) ∷ None ∷ []
+    ("a,b\n1,2,\n3,4,,\n" ∷ "a,b\n1,2,\n3,,5,\n" ∷ "a,b,\n1,2,3,\n" ∷ []) ≡ None ∷ Some (record { line = 5; fields = 3; first_fields = 2; others = 0; lasts = true }) ∷ None ∷ []
 unfolding strip_bom records_from next_record
 empty_at_the_end = refl
 

@@ -22,7 +22,7 @@ returns c =
     let counted = c.count_longer.ensures ∙ ap (λ (n : ℕ). count_by (λ (fields : List Text). nat_lt n (filled_len fields)) records) first in
     let others : c.saturating_sub-others.result ≡ count_by (is_longer records) records - 1 = c.saturating_sub-others.ensures ∙ ap (λ (n : ℕ). n - 1) counted in
     let left : c.saturating_sub-2.result ≡ (length records - before) - 1 = search rules in
-    rw (line, c.fields_at.ensures, first, others, left) (some_longer options text other records before found)
+    rw (line, c.filled_at.ensures, first, others, left) (some_longer options text other records before found)
 
 pub returns-in_err-before : goal.returns-in_err-before
 returns-in_err-before c =
