@@ -35,8 +35,8 @@ const BOLD: &TextStyle<'static> = &TextStyle {
     attributes: &[Attribute::Bold],
 };
 
-/// The cell of a text that isn't cleaned yet, with spaces after it. The text is lent if it is drawn
-/// as it is; else a cell is made.
+/// The cell of a text that isn't cleaned yet, followed by `after` spaces. The text is lent if it is
+/// drawn as it is; else a cell is made.
 #[inline(always)]
 pub(crate) fn row_cell<'r>(
     alloc: Global,
@@ -55,7 +55,8 @@ pub(crate) fn row_cell<'r>(
     other_cell(alloc, text, after, alignment, is_bold, look)
 }
 
-/// The cell of a field in its column, whose decimal mark is lined up if `is_aligned`.
+/// The cell of a field in its column. If `is_aligned`, spaces after the field line up its decimal
+/// mark.
 #[inline(always)]
 pub(crate) fn field_cell<'r>(
     alloc: Global,
@@ -72,8 +73,8 @@ pub(crate) fn field_cell<'r>(
     row_cell(alloc, field, after, column.alignment, false, look)
 }
 
-/// Appends the cell of a field in its column, whose decimal mark is lined up if `is_aligned`, with
-/// its settings if it has some.
+/// Appends the cell of a field in its column, as `field_cell` returns it, but with its own settings
+/// if it has any.
 #[inline(always)]
 pub(crate) fn push_field<'r>(
     cells: &mut Vec<RowCell<'r>>,
@@ -179,7 +180,7 @@ pub(crate) fn push_name<'r>(
     }
 }
 
-// The number of spaces that line up the decimal mark of a field, if `is_aligned`.
+// The number of spaces that line up the decimal mark of a field, if `is_aligned`; else 0.
 #[inline(always)]
 fn spaces_of(
     alloc: Global,
@@ -196,7 +197,7 @@ fn spaces_of(
     spaces_after(alloc, points, field, look.has_sequences)
 }
 
-// Appends the cell of a text with spaces after it that isn't one line as it is.
+// Appends the cell of a text that can't be lent as a single line, followed by `after` spaces.
 #[inline(never)]
 fn push_other<'r>(
     cells: &mut Vec<RowCell<'r>>,
@@ -214,7 +215,7 @@ fn push_other<'r>(
     Ok(())
 }
 
-/// The cell of a record's number, at the right.
+/// The right-aligned cell of a record's number.
 #[inline(never)]
 pub(crate) fn number_cell<'r>(alloc: Global, number: u128, look: &Look) -> Result<RowCell<'r>>
     ensures { IfOk result (λ cell.
@@ -243,8 +244,8 @@ pub(crate) fn name_cell<'r>(
     }
 }
 
-// The cell of a text with spaces after it that isn't one line as it is: it is lent if it is several
-// lines as it is, else made with a text of its own.
+// The cell of a text that can't be lent as a single line, followed by `after` spaces. The text is
+// lent if it is drawn as it is on several lines. Otherwise the cell gets a copy.
 #[inline(never)]
 fn other_cell<'r>(
     alloc: Global,
@@ -263,7 +264,7 @@ fn other_cell<'r>(
     boxed_cell(alloc, text, after, alignment, is_bold, look)
 }
 
-// The cell of such a text, made with a text of its own, as a cell of a row.
+// A cell with a cleaned copy of a text, followed by `after` spaces, as a cell of a row.
 #[inline(never)]
 fn boxed_cell<'r>(
     alloc: Global,
@@ -280,7 +281,7 @@ fn boxed_cell<'r>(
     Ok(RowCell::Made(Box::new(alloc, cell)?))
 }
 
-// The cell of such a text, made with a text of its own.
+// A cell with a cleaned copy of a text, followed by `after` spaces.
 fn made_cell(
     alloc: Global,
     text: &str,
@@ -300,8 +301,8 @@ fn made_cell(
     Ok(cell)
 }
 
-/// The row of the header: the name of the numbers, if there are any, and the names of columns with
-/// their settings.
+/// The row of the header: the name of the column of numbers if rows are numbered, and the names of
+/// the other columns with their settings. The only error is `OutOfMemory`.
 pub fn header_of(
     alloc: Global,
     is_numbered: bool,
@@ -352,7 +353,7 @@ fn add_names(
     Ok(())
 }
 
-// Appends the cell of a name, with its settings if it has some.
+// Appends the cell of a name, with its settings if it has any.
 fn add_name(
     alloc: Global,
     row: &mut Row,
@@ -369,7 +370,7 @@ fn add_name(
     row.try_add_cell(dressed_if(cell, own)?)
 }
 
-// A cell with its settings, if it has some.
+// A cell with its settings, if it has any.
 fn dressed_if(cell: Cell, own: Option<&CellSettings>) -> Result<Cell>
     ensures { IfOk result (λ made. made ≡ dressed (option_map (λ own. own.now) own.entry) cell) }
 {
@@ -379,7 +380,7 @@ fn dressed_if(cell: Cell, own: Option<&CellSettings>) -> Result<Cell>
     }
 }
 
-// The name of the numbers.
+// The name of the column of numbers: `#`, or an empty name if the header has no fields.
 fn number_name(names: &Record<'_>) -> &'static str
     ensures { result.now ≡ number_name names.now }
 {
@@ -407,7 +408,8 @@ fn cleaned_cell(
     })
 }
 
-// A text as its cell has it.
+// The text of a field's cell: cleaned, and escaped in Markdown. Elsewhere a blank text becomes
+// empty.
 fn field_text(alloc: Global, field: &str, look: &Look) -> Result<String>
     ensures { IfOk result (λ text. string_bytes text ≡ field_text look.now field.now) }
 {
@@ -423,7 +425,7 @@ fn field_text(alloc: Global, field: &str, look: &Look) -> Result<String>
     }
 }
 
-// The style of a text in bold, or none.
+// The style of a bold text; `None` if the text isn't bold.
 #[inline(always)]
 fn style_of(is_bold: bool) -> Option<&'static TextStyle<'static>>
     ensures { styled_by (option_map (λ style. style.now) result)
@@ -432,8 +434,8 @@ fn style_of(is_bold: bool) -> Option<&'static TextStyle<'static>>
     if is_bold { Some(BOLD) } else { None }
 }
 
-// The cell of a text with spaces after it, if it is one line as it is. Most texts are printable
-// ASCII.
+// The cell that lends a text, followed by `after` spaces, if it is drawn as it is on one line.
+// Printable ASCII is tried first, because most texts are.
 #[inline(always)]
 fn lent_cell<'r>(
     text: &'r str,
@@ -459,7 +461,7 @@ fn lent_cell<'r>(
     Some(cell)
 }
 
-// The cell of a text that is one line, and of which no character is replaced.
+// The cell that lends a text. `None` unless the text is one line in which no character is replaced.
 #[inline(never)]
 fn clean_cell<'r>(
     text: &'r str,
@@ -477,7 +479,8 @@ fn clean_cell<'r>(
     Some(cell)
 }
 
-// The cell of a text with spaces after it, if these are none and each line is drawn as it is.
+// The cell that lends a text of several lines. `None` if spaces follow the text, if it is blank or
+// for Markdown, or if one of its lines isn't drawn as it is.
 fn lines_cell<'r>(
     text: &'r str,
     after: usize,
@@ -496,7 +499,7 @@ fn lines_cell<'r>(
     Some(cell)
 }
 
-// Whether each line of a text is drawn as it is.
+// Returns true if each line of a text is drawn as it is.
 fn has_clean_lines(text: &str) -> bool
     ensures { result ≡ true → list_any is_harmful (chars text.now) ≡ false }
 {
@@ -508,8 +511,8 @@ fn has_clean_lines(text: &str) -> bool
     true
 }
 
-// Whether a clean field with spaces after it may be drawn as another text: it is blank, but not
-// empty, or it may be escaped.
+// Returns true if a clean field with spaces after it may be drawn as another text. A blank field
+// becomes empty, and a field in Markdown may be escaped.
 #[inline(always)]
 fn is_changed(look: &Look, field: &str, after: usize) -> bool
     ensures { result ≡ false → IsKept look.now field.now after }
@@ -521,7 +524,7 @@ fn is_changed(look: &Look, field: &str, after: usize) -> bool
     }
 }
 
-// Whether all bytes are spaces and line feeds.
+// Returns true if all bytes are spaces and line feeds.
 fn is_blank(bytes: &[u8]) -> bool
     ensures { result ≡ is_blank bytes.now }
 {

@@ -1,4 +1,4 @@
-//! How the cells of drawn columns are aligned, and what is seen of fields.
+//! Names, alignment and decimal marks of drawn columns, and the visible text of fields.
 
 ghost use Rattle.std.specs.Prelude.{◌≡◌, IfOk, map, option_map, string_bytes};
 ghost use Rattle.std.specs.Cow.{cow_str_bytes};
@@ -16,7 +16,8 @@ use csv_records::{ColumnMarks, Points, Record, Rows};
 use std::alloc::{AllocError, Global};
 use std::borrow::CowStr;
 
-/// The columns at these positions, each with what its fields say of it.
+/// The plan of each column that is drawn. It follows from the fields of `rows`, and from the sides
+/// that `columns` sets.
 pub(crate) fn drawn_columns(
     alloc: Global,
     columns: &Columns,
@@ -35,7 +36,7 @@ pub(crate) fn drawn_columns(
     Ok(drawn)
 }
 
-// The column at a position.
+// The plan of the column at a position.
 fn drawn_column(position: usize, columns: &Columns, summary: ColumnSummary) -> ColumnPlan
     ensures { result ≡ column_at columns.now summary position }
 {
@@ -49,7 +50,7 @@ fn drawn_column(position: usize, columns: &Columns, summary: ColumnSummary) -> C
     }
 }
 
-// The decimal mark of a column of this alignment.
+// The decimal mark of a column, if its fields have one. Only right-aligned columns have one.
 fn points_at(alignment: Option<CellAlignment>, marks: Option<ColumnMarks>) -> Option<Points>
     ensures { result ≡ points_at alignment marks }
 {
@@ -60,7 +61,8 @@ fn points_at(alignment: Option<CellAlignment>, marks: Option<ColumnMarks>) -> Op
     }
 }
 
-/// The name of the column at a position, or its number, counted from 1, if it has no name.
+/// The name of the column at a position, or its number, counted from 1, if it has no name. The only
+/// error is that memory runs out.
 pub fn name_at<'a>(
     alloc: Global,
     names: &Record<'a>,
@@ -71,7 +73,8 @@ pub fn name_at<'a>(
     name_or_number(alloc, names.get(position), position)
 }
 
-/// This name of the column at a position, or the column's number, counted from 1, if it has none.
+/// The given name of the column at a position, or the column's number, counted from 1, if there is
+/// no name.
 pub(crate) fn name_or_number<'a>(
     alloc: Global,
     name: Option<&'a str>,
@@ -86,7 +89,8 @@ pub(crate) fn name_or_number<'a>(
     }
 }
 
-// The alignment of a column: that which was chosen for it, or that of numbers.
+// The alignment of a column: the one that was set for it, else right if its fields are numbers.
+// `None` leaves it to the table.
 fn alignment_of(
     position: usize,
     right: &[usize],
@@ -106,7 +110,8 @@ fn alignment_of(
     }
 }
 
-/// What is seen of a field, without sequences that are kept.
+/// The visible text of a field: the field without SGR sequences if `has_sequences`, else the whole
+/// field.
 pub(crate) fn seen_text<'a>(
     alloc: Global,
     field: &'a str,

@@ -1,4 +1,4 @@
-//! Decimal points below each other.
+//! Aligns decimal points by spaces after fields.
 
 ghost use Rattle.std.specs.Prelude.{◌≡◌, ◌++◌, IfOk};
 ghost use Rattle.std.specs.Cow.{cow_str_bytes};
@@ -12,25 +12,26 @@ use csv_records::Points;
 use std::alloc::{AllocError, Global};
 use std::borrow::CowStr;
 
-/// How many characters a field has at most whose mark is lined up, or that isn't broken over lines.
+/// The most characters of a field whose decimal mark is lined up, or which isn't broken over lines.
+/// A time stamp that isn't broken may have more.
 pub(crate) const LONGEST_KEPT: usize = 25;
 
-/// Whether a field is short, and of printable ASCII.
+/// Returns true if a field is short and consists of printable ASCII.
 pub(crate) fn is_narrow(field: &str) -> bool
     ensures { result ≡ is_narrow field.now }
 {
     field.len() <= LONGEST_KEPT && is_printable(field.as_bytes())
 }
 
-/// Whether one of these columns has a decimal mark.
+/// Returns true if one of these columns has a decimal mark.
 pub(crate) fn has_points(columns: &[ColumnPlan]) -> bool
     ensures { result ≡ has_points columns.now }
 {
     columns.iter().any(|column| column.points.is_some())
 }
 
-/// How many spaces after a field put its mark below those of its column, by what is seen of the
-/// field; 0 in a column without marks.
+/// The number of spaces after a field that put its decimal mark below the other marks of its
+/// column. Only the visible text of the field counts. 0 in a column without marks.
 #[inline(always)]
 pub(crate) fn spaces_after(
     alloc: Global,
@@ -48,7 +49,7 @@ pub(crate) fn spaces_after(
     Ok(points.spaces_behind(field.as_str()))
 }
 
-/// A text with spaces after it.
+/// A text followed by `count` spaces. It is copied only if there are any.
 pub(crate) fn with_spaces<'a>(
     alloc: Global,
     text: &'a str,

@@ -21,7 +21,7 @@ use std::alloc::{AllocError, Global};
 use std::marker::Model;
 use std::mem;
 
-// How many records a piece has at most.
+// The most records of a piece.
 const RECORDS: usize = 256;
 
 // The bytes that a piece has room for at first.
@@ -52,7 +52,7 @@ impl Model for RecordDrawing {
 }
 
 impl RecordDrawing {
-    /// The drawing of nothing.
+    /// A drawing without any text.
     pub fn nothing() -> RecordDrawing
         ensures { result ≡ [] }
     {
@@ -62,7 +62,7 @@ impl RecordDrawing {
         }
     }
 
-    /// The drawing that begins with this text, of records of which none is drawn yet.
+    /// The drawing of records, none of which is drawn yet, with this text before them.
     pub(crate) fn of_records(beginning: String, left: Remaining) -> Result<RecordDrawing>
         requires { left.place ≡ 0 }
         ensures { IfOk result (λ drawn. drawn
@@ -103,7 +103,7 @@ pub(crate) struct Remaining {
     pub arranged: ArrangedTable<LazyTable>,
     // the record that is drawn next
     pub place: usize,
-    // whether the lines above the records are drawn with it
+    // true if the lines above the records are drawn with it
     pub is_first: bool,
     pub note: String,
 }

@@ -8,7 +8,8 @@ use crate::selection::Noun;
 use comfy_table::Result;
 use std::fmt::Write;
 
-/// Whether records are expanded, if the width has, or hasn't, room for the table of their rows.
+/// Returns true if records are expanded. `has_room` is true if the width has room for the table of
+/// their rows.
 pub(crate) fn is_expanded(expansion: Expansion, has_room: bool) -> bool
     ensures { result ≡ is_expanded_in expansion has_room }
 {
@@ -19,7 +20,8 @@ pub(crate) fn is_expanded(expansion: Expansion, has_room: bool) -> bool
     }
 }
 
-/// Appends the line above the record at a place.
+/// Appends the line above the expanded record at a place, such as `record 1 of 2`. `count` is the
+/// number of all records, if it is known.
 pub(crate) fn push_record_line(
     text: &mut String,
     noun: Noun,

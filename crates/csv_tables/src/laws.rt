@@ -1,5 +1,5 @@
-//! What is so of every drawing. Each function does nothing: its clauses are the law, so that a
-//! proof of yours can cite it.
+//! Laws of every drawing. Each function does nothing: its clauses are the law, and a proof of yours
+//! can cite it.
 
 ghost use Rattle.std.specs.Prelude.{Bool, List, Option, ℕ};
 ghost use Rattle.comfy_parts.specs.Text.{Text};

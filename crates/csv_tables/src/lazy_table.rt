@@ -21,7 +21,7 @@ pub(crate) struct LazyTable {
     pub rows: RecordRows,
     // the content width of each column
     widths: Vec<u16>,
-    // each cell of a row is known to have at most one text line
+    // if true, each cell of each row has at most one text line
     is_flat: bool,
 }
 
@@ -64,7 +64,7 @@ impl LazyTable {
         })
     }
 
-    /// Its rows.
+    /// Returns the rows, and drops the table.
     pub fn into_rows(self) -> RecordRows
         ensures { result ≡ self.rows }
     {
@@ -72,8 +72,8 @@ impl LazyTable {
         rows
     }
 
-    /// Whether each row is seen to have at most one line with these infos. If this returns
-    /// false, a row may have several lines or not.
+    /// Returns true if each row is known to have at most one line in columns of these widths. If
+    /// this returns false, each row may still have one line.
     pub fn is_flat_within(&self, infos: &[ColumnDisplayInfo]) -> bool
         ensures { result ≡ true → list_any (nat_lt 1) (map (row_height self.now.table infos.now)
             self.now.table.rows) ≡ false }
@@ -89,8 +89,8 @@ impl LazyTable {
     }
 }
 
-// The content width of each column of a table that has these rows, which are none of its own, and
-// whether no cell of the rows has several text lines.
+// The content width of each column of a table with these rows, in terminal columns. `table` has the
+// header, but no rows. The second value is true only if no cell of the rows has several text lines.
 fn content_widths(rows: &RecordRows, table: &Table) -> Result<(Vec<u16>, bool)>
     requires { table.now ≡ headed_by rows.now }
     ensures each { IfOk result (λ found. (i : ℕ)
@@ -112,8 +112,8 @@ fn content_widths(rows: &RecordRows, table: &Table) -> Result<(Vec<u16>, bool)>
     Ok((widths, is_flat))
 }
 
-// The content widths of the names and the fields of expanded records. There are none if no record
-// has a field.
+// The content widths of the column of names and the column of fields of expanded records. The list
+// is empty if no record has a field.
 fn pair_widths(rows: &RecordRows, table: &Table) -> Result<Vec<u16>>
     requires { rows.now.is_expanded ≡ true }
     ensures each { IfOk result (λ widths. (i : ℕ) → slice_index_or widths.items i 0
@@ -137,7 +137,8 @@ fn pair_widths(rows: &RecordRows, table: &Table) -> Result<Vec<u16>>
     Ok(widths)
 }
 
-// Whether each column has room for this content width. A width of 65535 may mean more.
+// Returns true if each column has room for its content. Returns false for a content width of 65535,
+// because the content may be wider.
 fn are_within(widths: &[u16], infos: &[ColumnDisplayInfo]) -> bool
     ensures { result ≡ true → AreWithin widths.now infos.now }
 {

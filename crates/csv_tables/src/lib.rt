@@ -1,5 +1,4 @@
-//! From records to tables and their drawings: how the cells of columns look, rows and expanded
-//! records, and Markdown.
+//! Makes tables of records, and draws them as rows, as expanded records, or for Markdown.
 #![tactic(auto)]
 
 mod cells;

@@ -1,4 +1,4 @@
-//! Columns that have paddings, and least and greatest widths of their own.
+//! Paddings, and least and greatest widths, that a caller sets for columns.
 
 ghost use Rattle.std.specs.Prelude.{◌≡◌, ◌≤◌, ◌||◌, All, IfOk, [], length, map, max, not, option_map, slice_index};
 ghost use Rattle.std.specs.List.{range_with_len};
@@ -24,11 +24,11 @@ pub(crate) struct ColumnLimits {
     pub least: u16,
     // at least 1, and at least the least width
     pub greatest: Option<u16>,
-    // whether its fields have a decimal mark that may be lined up
+    // true if its fields have a decimal mark that may be lined up
     pub has_points: bool,
 }
 
-/// The limits of each column of the table of rows; none if no column has settings.
+/// The limits of each column of the table of rows. The list is empty if no column has settings.
 pub(crate) fn limits_in(
     settings: &[ColumnSettings],
     selected: &SelectedRecords,
@@ -70,7 +70,8 @@ fn limits_of(settings: ColumnSettings, has_points: bool) -> ColumnLimits
     }
 }
 
-// The greatest width of such a column, if it has one.
+// The greatest width of a column with these settings, if it has one: at least 1, and at least the
+// least width.
 fn greatest_of(settings: ColumnSettings) -> Option<u16>
     ensures { result ≡ option_map (max (least_greatest settings)) settings.greatest }
 {
@@ -112,7 +113,7 @@ fn pad_columns(table: &mut Table, limits: &[ColumnLimits])
     }
 }
 
-// Gives the column at a place a padding, if it is there.
+// Sets the padding of the column at a place. Does nothing if there is no such column.
 fn pad_column(table: &mut Table, at: usize, padding: (u16, u16))
     ensures { table.new ≡ record table.old {
       columns = padded_at at padding table.old.columns;
@@ -129,7 +130,8 @@ fn set_padding(column: &mut Column, padding: (u16, u16))
     column.set_padding(padding);
 }
 
-/// The width that the column at a place takes for a content, with its paddings.
+/// The width of the column at a place for a content of this width, in terminal columns: within its
+/// limits, and with its paddings.
 pub(crate) fn taken_at(limits: &[ColumnLimits], at: usize, content: u16) -> usize
     ensures { result ≡ taken (limits_at limits.now at) content }
 {
@@ -144,7 +146,7 @@ fn both_paddings(limits: ColumnLimits) -> usize
     usize::from(limits.padding.0) + usize::from(limits.padding.1)
 }
 
-// A content, no wider than the greatest width and no narrower than the least one.
+// A content width, no greater than the greatest width and no less than the least one.
 fn bounded(limits: ColumnLimits, content: u16) -> u16
     ensures { result ≡ bounded limits content }
 {
@@ -154,7 +156,8 @@ fn bounded(limits: ColumnLimits, content: u16) -> u16
     }
 }
 
-/// The constraints of columns that are given these contents.
+/// The constraints that give columns at least these content widths, within their limits. Without
+/// limits, each column has a padding of one terminal column on both sides.
 pub(crate) fn limits_for(
     alloc: Global,
     limits: &[ColumnLimits],
@@ -204,7 +207,7 @@ fn column_limits(
     Ok(constraints)
 }
 
-// The constraint of a column that is given this content.
+// The constraint that gives a column at least this content width, within its limits.
 fn limit_for(limits: ColumnLimits, given: u16) -> ColumnConstraint
     ensures { result ≡ limit_for limits given }
 {
@@ -215,7 +218,8 @@ fn limit_for(limits: ColumnLimits, given: u16) -> ColumnConstraint
     }
 }
 
-// The least width of such a column, with its paddings.
+// The lower bound of the width of a column that is given this content, with its paddings. 0 if the
+// content and the least width are 0.
 fn lower_limit(limits: ColumnLimits, given: u16) -> u16
     ensures { result ≡ lower_limit limits given }
 {
@@ -246,7 +250,8 @@ fn between(lower: u16, upper: u16) -> ColumnConstraint
     }
 }
 
-/// Whether no text is wrapped that has a decimal point which may be lined up.
+/// Returns true if no text is wrapped whose decimal point may be lined up: each column of such
+/// texts has room for its content.
 pub(crate) fn hold_points(limits: &[ColumnLimits], contents: &LazyTable) -> Result<bool>
     ensures { IfOk result (λ hold. hold ≡ hold_points limits.now contents.now.table) }
 {
@@ -257,7 +262,7 @@ pub(crate) fn hold_points(limits: &[ColumnLimits], contents: &LazyTable) -> Resu
     Ok(hold)
 }
 
-// Whether none is in a column of this content.
+// Returns true if no such text is wrapped in a column of this content width.
 fn holds_points(limits: ColumnLimits, content: u16) -> bool
     ensures { result ≡ not limits.has_points || is_within limits.greatest content }
 {
@@ -273,7 +278,8 @@ fn is_within(greatest: Option<u16>, content: u16) -> bool
     }
 }
 
-/// The limits with greatest widths that lines of the columns reach.
+/// The limits, with each greatest width replaced by the longest line of its column, so that no
+/// column is wider than its lines need. Texts are wrapped at the greatest width for this.
 pub(crate) fn reached_limits(
     limits: &[ColumnLimits],
     contents: &LazyTable,
@@ -291,7 +297,8 @@ pub(crate) fn reached_limits(
     Ok(reached)
 }
 
-// The greatest width that lines of the column at a place reach, if it has a greatest width.
+// The longest line of the column at a place, as its texts are wrapped at its greatest width. The
+// result is at least 1, and at least the least width. `None` if there is no greatest width.
 fn reached_greatest(contents: &LazyTable, at: usize, limits: ColumnLimits) -> Result<Option<u16>>
     ensures { IfOk result (λ reached. reached
         ≡ option_map (reached_greatest contents.now.table at limits) limits.greatest) }
@@ -303,7 +310,8 @@ fn reached_greatest(contents: &LazyTable, at: usize, limits: ColumnLimits) -> Re
     Ok(Some(longest.min(65535).max(usize::from(limits.least.max(1))) as u16))
 }
 
-// The longest line of the column at a place, whose texts are wrapped at a width.
+// The longest line of the column at a place, as its texts are wrapped at a width, in terminal
+// columns. 0 if there is no such column.
 fn longest_line_at(contents: &LazyTable, at: usize, width: u16) -> Result<usize>
     ensures { IfOk result (λ longest.
         longest ≡ longest_line_at contents.now.table at width) }

@@ -1,4 +1,4 @@
-//! What makes a table one for Markdown: the texts of its cells, and the line below its header.
+//! Tables for Markdown: the escaped texts of cells, and the line below the header.
 
 ghost use Rattle.std.specs.Prelude.{◌≡◌, ◌++◌, ◌==◌, [], ◌∷◌, IfOk, OnOk, chars, slice_get, string_bytes};
 ghost use Rattle.std.specs.List.{list_any};
@@ -10,7 +10,8 @@ use comfy_parts::style::CellAlignment;
 use csv_records::split_first;
 use std::alloc::{AllocError, Global};
 
-/// A text as a cell of a Markdown table, from which a reader gets its characters.
+/// A text as it is written in a cell of a Markdown table, so that readers of the table see its
+/// characters. The only error is that memory runs out.
 ///
 /// A backslash is added before each character that could begin or end markup: `|`, `\`, `<`, `[`,
 /// `]`; `&` of a character reference; `*`, `` ` ``, `~` and `_` if the same character follows, but
@@ -33,16 +34,16 @@ pub fn escaped(alloc: Global, text: &str) -> Result<String, AllocError>
     Ok(cell)
 }
 
-/// Whether a text has a character that may be written otherwise in such a cell.
+/// Returns true if a text has a character that `escaped` may write in another way.
 pub(crate) fn may_be_escaped(text: &str) -> bool
     ensures { result ≡ list_any may_be_escaped (chars text.now) }
 {
     text.chars().any(|c| c == '\n' || is_mark(c) || matches!(c, '*' | '`' | '~' | '_' | '&'))
 }
 
-/// Appends the line below the header, and a line feed: dashes between bars, the last of a column at
-/// the right a colon. The widths are those of the columns without their paddings, in terminal
-/// columns.
+/// Appends the line below the header, and a line feed: dashes between bars. A right-aligned column
+/// has a colon in place of its last dash. `widths` are the content widths of the columns, in
+/// terminal columns. The only error is that memory runs out.
 pub fn push_rule(
     text: &mut String,
     sides: &[Option<CellAlignment>],
@@ -58,7 +59,7 @@ pub fn push_rule(
     text.push('\n')
 }
 
-// What a column of this alignment and width adds to the line.
+// Appends the part of the line for a column of this alignment and content width.
 fn push_rule_segment(
     text: &mut String,
     side: Option<CellAlignment>,
@@ -73,7 +74,7 @@ fn push_rule_segment(
     text.push_str(if is_right(side) { ":|" } else { "-|" })
 }
 
-/// Whether cells of this alignment are at the right.
+/// Returns true if cells of this alignment are right-aligned.
 pub(crate) fn is_right(alignment: Option<CellAlignment>) -> bool
     ensures { result ≡ is_right alignment }
 {
@@ -100,14 +101,16 @@ fn push_escaped(cell: &mut String, c: char, is_special: bool) -> Result<(), Allo
     cell.push(c)
 }
 
-// Whether a character could begin or end markup, or an address that such a character would spoil.
+// Returns true if a character needs a backslash: it could begin or end markup, or begin a web
+// address in a word that has such a character.
 fn is_special(is_marked: bool, before: Option<char>, c: char, behind: &str) -> bool
     ensures { result ≡ is_special is_marked before c (chars behind.now) }
 {
     begins_markup(before, c, behind) || is_marked && is_in_address(before, c, first(behind))
 }
 
-// Whether the word around the first character is marked; known of it unless it begins here.
+// Returns true if the word around the first character of `text` is marked: a character of it could
+// begin or end markup. `is_marked` is the answer for the character before, in the same word.
 fn is_marked_at(is_marked: bool, before: Option<char>, text: &str) -> bool
     ensures { result ≡ is_marked_at is_marked before (chars text.now) }
 {
@@ -118,7 +121,8 @@ fn is_marked_at(is_marked: bool, before: Option<char>, text: &str) -> bool
     }
 }
 
-// Whether a character of the first word could begin or end markup.
+// Returns true if a character of the first word of `text` could begin or end markup. `before` is
+// the character before `text`.
 fn is_word_marked(before: Option<char>, text: &str) -> bool
     ensures { result ≡ is_word_marked before (chars text.now) }
 {
@@ -152,7 +156,8 @@ fn is_space(c: char) -> bool
     c == ' ' || c == '\n'
 }
 
-// Whether a web address could be here: `://`, or `www.`, by the characters next to it.
+// Returns true if a character could be the colon of `://` or a point of `www.`, by the characters
+// next to it.
 fn is_in_address(before: Option<char>, c: char, after: Option<char>) -> bool
     ensures { result ≡ is_in_address before c after }
 {
@@ -163,7 +168,8 @@ fn is_in_address(before: Option<char>, c: char, after: Option<char>) -> bool
     }
 }
 
-// Whether a character could begin or end markup.
+// Returns true if a character could begin or end markup, by the character before it and the text
+// after it.
 fn begins_markup(before: Option<char>, c: char, behind: &str) -> bool
     ensures { result ≡ begins_markup before c (chars behind.now) }
 {
@@ -176,8 +182,8 @@ fn is_mark(c: char) -> bool
     matches!(c, '|' | '\\' | '<' | '[' | ']')
 }
 
-// Whether the same character later in the text would make a character markup. An underscore after
-// a letter or a digit begins none.
+// Returns true if a character is markup when the same character follows later in the text. An
+// underscore after a letter or a digit isn't.
 fn is_paired(before: Option<char>, c: char) -> bool
     ensures { result ≡ is_paired before c }
 {
@@ -190,7 +196,7 @@ fn holds(text: &str, c: char) -> bool
     text.chars().any(|d| d == c)
 }
 
-// Whether a letter or a digit is there.
+// Returns true if there is a character, and it is a letter or a digit.
 fn is_in_word(c: Option<char>) -> bool
     ensures { result ≡ is_in_word c }
 {

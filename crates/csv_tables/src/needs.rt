@@ -1,4 +1,4 @@
-//! What the fields of a column need: the whole of them, or their widest word.
+//! The widths that columns need for their fields: for whole fields, or for the widest word.
 
 ghost use Rattle.std.specs.Prelude.{◌≡◌, IfOk, false, min};
 ghost use Rattle.comfy_table.specs.RowCells.{cell_of};
@@ -13,19 +13,21 @@ use comfy_table::for_records::{LinesCell, RowCell, TextCell};
 use comfy_table::{Cell, Result, Table};
 use std::alloc::Global;
 
-// How many terminal columns a word of a field has at most that is kept whole.
+// The most terminal columns of a word of a field that is kept whole. Of a wider word a column keeps
+// `LONGEST_WORD` terminal columns.
 const LONGEST_WHOLE: u16 = 40;
 
-/// Which words the columns of text keep whole.
+/// The words that columns of text keep whole.
 #[derive(Clone, Copy, Debug, PartialEq, Eq)]
 pub(crate) enum Words {
     Broken,
     OfNames,
-    /// Those of names too.
+    /// Words of names and of fields.
     OfFields,
 }
 
-/// The words that are kept whole, or records are expanded, if a row has at most `max_height` lines.
+/// The words that have to be kept whole if a row has at most `max_height` lines. A width without
+/// room for them has no room for the table of rows.
 pub(crate) fn least_words(max_height: Option<usize>) -> Words
     ensures { result ≡ least_words max_height }
 {
@@ -35,7 +37,8 @@ pub(crate) fn least_words(max_height: Option<usize>) -> Words
     }
 }
 
-/// What the column at a position keeps for the widest word of its name.
+/// The content width that the column at a position keeps for the widest word of its name, in
+/// terminal columns; 0 if it keeps none.
 pub(crate) fn kept_of_name(table: &Table, words: Words, at: usize) -> u16
     ensures { result ≡ kept_of_name words (wide_word table.now (name_in table.now at)) }
 {
@@ -45,7 +48,8 @@ pub(crate) fn kept_of_name(table: &Table, words: Words, at: usize) -> u16
     }
 }
 
-/// What the column at a position, which has this content, keeps for its fields.
+/// The content width that the column at a position keeps for its fields, in terminal columns.
+/// `content` is the width of its whole content.
 pub(crate) fn kept_of_fields(
     contents: &LazyTable,
     words: Words,
@@ -78,8 +82,9 @@ fn kept_word(width: u16) -> u16
     }
 }
 
-// The terminal columns of the widest field of the column at a position, or of the widest word of
-// its fields, up to a content. No field is looked at after one that needs as much.
+// The width of the widest field of the column at a position if `is_nowrap`, else of the widest word
+// of its fields, in terminal columns. The result is at most `content`. The search stops at the
+// first field that needs as much.
 fn fields_need(contents: &LazyTable, is_nowrap: bool, at: usize, content: u16) -> Result<u16>
     requires { contents.now.rows.is_expanded ≡ false }
     ensures { IfOk result (λ need.
@@ -98,7 +103,7 @@ fn fields_need(contents: &LazyTable, is_nowrap: bool, at: usize, content: u16) -
     Ok(need.min(usize::from(content)) as u16)
 }
 
-/// The terminal columns of a cell, or of its widest word.
+/// The width of a cell if `is_nowrap`, else of its widest word, in terminal columns.
 pub(crate) fn cell_need(
     alloc: Global,
     table: &Table,
@@ -126,7 +131,7 @@ fn cell_word_width(alloc: Global, table: &Table, cell: &RowCell<'_>) -> Result<u
     }
 }
 
-// The width of the widest word of a text that is lent.
+// The width of the widest word of a lent text of one line, in terminal columns.
 fn text_word_width(alloc: Global, cell: &TextCell<'_>) -> Result<usize>
     ensures { (table : TableValue) → IfOk result (λ width. width
         ≡ cell_word_width (measured_cell table cell.now)) }
@@ -139,7 +144,7 @@ fn text_word_width(alloc: Global, cell: &TextCell<'_>) -> Result<usize>
     Ok(word_width(spaced.as_str()))
 }
 
-// The same of a text of several lines.
+// The width of the widest word of a lent text of several lines, in terminal columns.
 fn lent_word_width(cell: &LinesCell<'_>) -> usize
     ensures { (table : TableValue)
         → result ≡ cell_word_width (measured_cell table cell.now) }
@@ -151,7 +156,7 @@ fn lent_word_width(cell: &LinesCell<'_>) -> usize
     widest
 }
 
-/// The width of the widest word of a cell that is made.
+/// The width of the widest word of a made cell, in terminal columns.
 pub(crate) fn lines_word_width(table: &Table, cell: &Cell) -> usize
     ensures { result ≡ cell_word_width (measured_cell table.now cell.now) }
 {

@@ -1,4 +1,5 @@
-//! Numbers and dates, which aren't broken over lines where there is room.
+//! Gives columns room for numbers and dates, so that these aren't broken over lines if a width has
+//! room.
 
 ghost use Rattle.std.specs.Prelude.{◌≡◌, ◌==◌, ◌||◌, ◌-◌, Bool, List, ◌≤◌, ◌^◌, All, IfOk, None, OnOk, Some, chars, false, if◌then◌else◌, length, map, max, min, nat_le, nat_lt, option_copied, slice_get, true, unwrap_or};
 ghost use Rattle.std.specs.List.{list_all, list_any, slice_split};
@@ -29,22 +30,22 @@ use comfy_table::{Cell, Column, ColumnConstraint, Result, Table, Width};
 use csv_records::{is_neutral, is_number};
 use std::alloc::{AllocError, Global};
 
-/// How many terminal columns a column needs at most for a word of its name.
+/// The most terminal columns that a column needs for a word of its name.
 pub(crate) const LONGEST_WORD: u16 = 20;
 
-/// How many of its content it needs at most, whatever its name.
+/// The most terminal columns that a column needs of its content, whatever its name.
 pub(crate) const LEAST_LEVEL: u16 = 8;
 
-// How many characters a time stamp has at most.
+// The most characters of a time stamp. All of them are ASCII.
 const LONGEST_STAMP: usize = 35;
 
-// How many terminal columns the names of expanded records need at most.
+// The most terminal columns that the names of expanded records need.
 const NEEDED_NAMES: u16 = 4;
 
-/// Gives columns their paddings and their limits. If a width is kept that has room for that,
-/// columns keep what they need, those of numbers and dates their whole fields. Returns whether
-/// there is room: never if decimal points are lined up in texts that are wrapped, else always if no
-/// width is kept.
+/// Gives columns their paddings and their limits. If a width is kept that has room, columns keep
+/// what they need, and columns of numbers and dates keep their whole fields. Returns true if there
+/// is room. There is none if decimal points are lined up in texts that are wrapped. Otherwise there
+/// always is if no width is kept.
 pub(crate) fn keep_nowrap(contents: &mut LazyTable) -> Result<bool>
     requires { contents.old.rows.is_expanded ≡ false }
     ensures contents { OnOk result (contents.new ≡ record contents.old {
@@ -67,8 +68,8 @@ pub(crate) fn keep_nowrap(contents: &mut LazyTable) -> Result<bool>
     Ok(hold_points && has_room)
 }
 
-// Gives columns their limits, after they have their paddings. Returns whether a width that is kept
-// has room.
+// Gives columns their limits. Their paddings were set before. Returns true if no width is kept, or
+// if the width has room.
 fn keep_limits(contents: &mut LazyTable, limits: &[ColumnLimits]) -> Result<bool>
     requires { contents.old.rows.is_expanded ≡ false }
     ensures contents { OnOk result (contents.new ≡ record contents.old {
@@ -108,7 +109,7 @@ fn keep_contents(
     Ok(())
 }
 
-// Gives columns their limits, and no contents first.
+// Gives columns their limits, if they have limits, and reserves no content.
 fn keep_nothing(
     contents: &mut LazyTable,
     limits: &[ColumnLimits],
@@ -152,7 +153,8 @@ fn keep_within(contents: &mut LazyTable, limits: &[ColumnLimits], width: u16) ->
     Ok(true)
 }
 
-// Of each drawn column, whether it holds numbers and dates alone: none does without rows.
+// For each drawn column, true if it holds only numbers and dates. All are false if there are no
+// rows.
 fn nowrap_columns(selected: &SelectedRecords) -> std::result::Result<Vec<bool>, AllocError>
     ensures { IfOk result (λ nowrap. nowrap.items ≡ nowrap_in selected.now) }
 {
@@ -167,7 +169,7 @@ fn nowrap_columns(selected: &SelectedRecords) -> std::result::Result<Vec<bool>, 
     Ok(nowrap)
 }
 
-// What the columns of a table of rows keep of their contents.
+// The content width that each column of a table of rows keeps, in terminal columns.
 fn kept_contents(contents: &LazyTable, nowrap: &[bool], words: Words) -> Result<Vec<u16>>
     requires { contents.now.rows.is_expanded ≡ false }
     ensures { IfOk result (λ kept. kept.items ≡ by_columns
@@ -183,8 +185,9 @@ fn kept_contents(contents: &LazyTable, nowrap: &[bool], words: Words) -> Result<
     Ok(kept)
 }
 
-// The same with the words that are kept under a width, of which it has room for what is kept at
-// least.
+// The content widths that columns keep under a width. `least` are the widths that they keep at
+// least, for which the width has room. If all contents have room, `least` is enough. Otherwise
+// words of fields are kept whole if there is room, or else words of names.
 fn most_contents(
     contents: &LazyTable,
     limits: &[ColumnLimits],
@@ -215,7 +218,8 @@ fn most_contents(
     Ok(least)
 }
 
-// Whether a width has room for columns that keep so much, and share it up to a level.
+// Returns true if a width has room for columns that have their contents up to `level`, but at least
+// what they keep.
 fn fits(contents: &LazyTable, limits: &[ColumnLimits], kept: &[u16], level: u16, width: u16) -> bool
     ensures { (wanted : Wanted)
         → kept.now ≡ by_columns (min_width wanted contents.now.table) contents.now.table
@@ -224,7 +228,8 @@ fn fits(contents: &LazyTable, limits: &[ColumnLimits], kept: &[u16], level: u16,
     bounded_width(contents, limits, kept, level) <= usize::from(width)
 }
 
-// The width of the table where its columns, which keep so much, share it up to a level.
+// The width of the table if each column has its content up to `level`, but at least what it keeps,
+// within its limits. Borders and paddings are included. In terminal columns, at most `usize::MAX`.
 fn bounded_width(contents: &LazyTable, limits: &[ColumnLimits], kept: &[u16], level: u16) -> usize
     ensures { (wanted : Wanted)
         → kept.now ≡ by_columns (min_width wanted contents.now.table) contents.now.table
@@ -246,7 +251,7 @@ fn shared_content(level: u16, kept: u16, content: u16) -> u16
     content.min(level).max(kept).max(1)
 }
 
-// The greatest level for which a width has room.
+// The greatest level for which a width has room; 0 if there is none.
 fn level_within(contents: &LazyTable, limits: &[ColumnLimits], kept: &[u16], width: u16) -> u16
     ensures { (wanted : Wanted)
         → kept.now ≡ by_columns (min_width wanted contents.now.table) contents.now.table
@@ -268,7 +273,8 @@ fn may_not_break(nowrap: &[bool], at: usize) -> bool
     }
 }
 
-// What the column at a position keeps of its content.
+// The part of its content width that the column at a position keeps, in terminal columns. A content
+// of at most `LEAST_LEVEL` is kept whole.
 fn kept_content(
     contents: &LazyTable,
     words: Words,
@@ -292,7 +298,7 @@ fn kept_content(
     Ok(of_name.max(of_fields).min(content))
 }
 
-/// The name of the column at a position.
+/// The cell of the header at a position, if there is one.
 pub(crate) fn name_in(table: &Table, at: usize) -> Option<&Cell>
     ensures { option_copied result ≡ name_in table.now at }
 {
@@ -302,7 +308,8 @@ pub(crate) fn name_in(table: &Table, at: usize) -> Option<&Cell>
     }
 }
 
-/// The width of the widest word of a name, where that is wide.
+/// The width of the widest word of a name, at most `LONGEST_WORD` terminal columns. 0 if there is
+/// no name, or if no word of it is wider than `LEAST_LEVEL`.
 pub(crate) fn wide_word(table: &Table, name: Option<&Cell>) -> u16
     ensures { result ≡ wide_word table.now (option_copied name.entry) }
 {
@@ -322,7 +329,7 @@ fn clamped_word(width: usize) -> u16
     }
 }
 
-/// The width of the widest word of a text line.
+/// The width of the widest word of a text line, in terminal columns.
 pub(crate) fn word_width(line: &str) -> usize
     ensures { result ≡ word_width line.now }
 {
@@ -372,7 +379,8 @@ fn constrain_columns(table: &mut Table, constraints: Vec<ColumnConstraint>)
     table.set_constraints(constraints);
 }
 
-// The contents that columns which keep these are given first, if all share a width up to a level.
+// The content widths that columns which keep `kept` get before all share the rest of a width up to
+// a level.
 fn given_contents(
     alloc: Global,
     kept: &[u16],
@@ -391,16 +399,17 @@ fn given_contents(
     Ok(given)
 }
 
-// What a column that keeps so much is given beforehand.
+// The content width that a column gets before all share the rest: what it keeps if its fields
+// aren't broken, or if it keeps more than the level; else 0.
 fn given_content(is_nowrap: bool, level: u16, kept: u16) -> u16
     ensures { result ≡ (if is_nowrap || nat_lt level kept then kept else 0) }
 {
     if is_nowrap || level < kept { kept } else { 0 }
 }
 
-/// Lets the fields of expanded records be as wide as the widest number or date of them that has
-/// room beside what the names need. The table stays where no width is kept, or where none of them
-/// would be broken anyway.
+/// Makes the column of fields of expanded records as wide as the widest number or date that has
+/// room beside what the names need. The table is unchanged if no width is kept, or if no number or
+/// date would be broken anyway.
 pub(crate) fn keep_nowrap_fields(contents: &mut LazyTable) -> Result<()>
     requires expanded { contents.old.rows.is_expanded ≡ true }
     requires header { contents.old.table.header ≡ None }
@@ -423,7 +432,8 @@ pub(crate) fn keep_nowrap_fields(contents: &mut LazyTable) -> Result<()>
     Ok(())
 }
 
-// The room of a width for the contents of two columns.
+// The terminal columns that a width leaves for the contents of two columns, beside borders and
+// paddings.
 fn room_for_two(table: &Table, width: u16) -> u16
     ensures value { result ≡ room_for_two width table.now.style }
     ensures below { result ≤ 65531 }
@@ -432,14 +442,14 @@ fn room_for_two(table: &Table, width: u16) -> u16
     width.saturating_sub(beside)
 }
 
-// What names leave of a room.
+// The terminal columns of a room that are left beside what the names need.
 fn room_beside(names: u16, room: u16) -> u16
     ensures { result ≡ room_beside names room }
 {
     room.saturating_sub(names.min(NEEDED_NAMES).max(1))
 }
 
-// The width of the widest number or date of the fields that has room.
+// The width of the widest number or date among the fields that has room, in terminal columns, or 0.
 fn field_width(contents: &LazyTable, room: u16) -> Result<u16>
     requires expanded { contents.now.rows.is_expanded ≡ true }
     requires header { contents.now.table.header ≡ None }
@@ -475,7 +485,7 @@ pub(crate) fn cell_nowrap_width(
     }
 }
 
-// The width of a text that is lent, if it is a number or a date and has room; else 0.
+// The width of a lent text of one line, if it is a number or a date and has room; else 0.
 fn text_nowrap_width(alloc: Global, cell: &TextCell<'_>, room: u16) -> Result<u16>
     ensures value { (table : TableValue) → IfOk result (λ width. width
         ≡ cell_nowrap_width room (measured_cell table cell.now)) }
@@ -489,7 +499,7 @@ fn text_nowrap_width(alloc: Global, cell: &TextCell<'_>, room: u16) -> Result<u1
     Ok(nowrap_width(spaced.as_str(), room))
 }
 
-// The widest among the lines of a text that is lent.
+// The width of the widest number or date among the lines of a lent text that has room, or 0.
 fn lent_nowrap_width(cell: &LinesCell<'_>, room: u16) -> u16
     ensures value { (table : TableValue)
         → result ≡ cell_nowrap_width room (measured_cell table cell.now) }
@@ -502,7 +512,7 @@ fn lent_nowrap_width(cell: &LinesCell<'_>, room: u16) -> u16
     widest
 }
 
-// The widest among the lines of a cell that is made.
+// The width of the widest number or date among the lines of a made cell that has room, or 0.
 fn lines_nowrap_width(table: &Table, cell: &Cell, room: u16) -> u16
     ensures value { result ≡ cell_nowrap_width room (measured_cell table.now cell.now) }
     ensures within { result ≤ room }
@@ -531,7 +541,8 @@ fn nowrap_width(line: &str, room: u16) -> u16
     }
 }
 
-// Whether a field might be broken that has room beside names.
+// Returns true if a field of this width might be broken beside names of this width. `room` is the
+// width that both have.
 fn may_break(room: u16, names: u16, field: u16) -> bool
     ensures { result ≡ may_break room names field }
 {
@@ -547,7 +558,7 @@ fn widen_contents(contents: &mut LazyTable, content: u16)
     widen_fields(&mut contents.table, content);
 }
 
-// Gives the fields' column this content, and its paddings.
+// Sets the width of the column of fields to this content width and its paddings.
 fn widen_fields(table: &mut Table, content: u16)
     requires { content ≤ 65531 }
     ensures { table.new ≡ with_field_width content table.old }
@@ -564,21 +575,23 @@ fn set_content(column: &mut Column, content: u16)
     column.set_constraint(ColumnConstraint::Absolute(Width::Fixed(content + 2)));
 }
 
-/// Whether a field isn't broken: it is a short value, or a time stamp.
+/// Returns true if a field isn't broken over lines: it is a short value, or a time stamp.
 pub(crate) fn is_nowrap(field: &str) -> bool
     ensures { result ≡ is_nowrap field.now }
 {
     is_short_value(field) || is_stamp(field.as_bytes())
 }
 
-// Whether a field is short, and a number, neutral, or of the characters of dates and times.
+// Returns true if a field is short, and is a number, neutral, or made of the characters of dates
+// and times.
 fn is_short_value(field: &str) -> bool
     ensures { result ≡ is_short_value field.now }
 {
     is_short(field) && (are_of_dates(field.as_bytes()) || is_numeric(field))
 }
 
-/// Whether a field is a time stamp, by its characters: one of them is a colon.
+/// Returns true if a field counts as a time stamp: it has at most `LONGEST_STAMP` characters, all
+/// of them characters of time stamps, and one of them is a colon.
 pub(crate) fn is_stamp(field: &[u8]) -> bool
     ensures { result ≡ is_stamp field.now }
 {
@@ -597,21 +610,21 @@ fn are_of_stamps(bytes: &[u8]) -> bool
     bytes.iter().all(|byte| is_of_stamps(*byte))
 }
 
-// A character of dates, or a letter of `UTC`, `AM` and `PM`.
+// Returns true for a character of dates, and for a letter of `UTC`, `AM` and `PM`.
 fn is_of_stamps(byte: u8) -> bool
     ensures { result ≡ is_of_stamps byte }
 {
     is_of_dates(byte) || matches!(byte, b'U' | b'C' | b'A' | b'P' | b'M')
 }
 
-// A number, or a field that says nothing in a column of numbers.
+// Returns true for a number, and for a field that is neutral in a column of numbers.
 fn is_numeric(field: &str) -> bool
     ensures { result ≡ is_number field.now || is_neutral field.now }
 {
     is_number(field) || is_neutral(field)
 }
 
-/// Whether a field has few characters.
+/// Returns true if a field has at most `LONGEST_KEPT` characters.
 pub(crate) fn is_short(field: &str) -> bool
     ensures { result ≡ nat_le (length (chars field.now)) longest_kept }
 {
@@ -624,7 +637,7 @@ fn are_of_dates(bytes: &[u8]) -> bool
     bytes.iter().all(|byte| is_of_dates(*byte))
 }
 
-// A digit, a mark of dates and times, or a space.
+// Returns true for a digit, a mark of dates and times, and a space.
 fn is_of_dates(byte: u8) -> bool
     ensures { result ≡ is_of_dates byte }
 {

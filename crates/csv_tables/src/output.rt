@@ -32,8 +32,9 @@ use csv_records::Records;
 use std::alloc::{AllocError, Global};
 use std::fmt::Write;
 
-/// The drawing of these records, of which so many stand below the header, where that is known. A
-/// line says how many there are, or that there are more, where not all of them are drawn.
+/// Draws records piece by piece. `count` is the number of records below the header, if it is known.
+/// If not all of them are drawn, a last line reports how many there are, or that there are more.
+/// The only error is `OutOfMemory`.
 pub fn drawn_records(
     alloc: Global,
     records: Records,
@@ -47,7 +48,7 @@ pub fn drawn_records(
 
 /// Draws records as `drawn_records` does, with settings of columns, rows and cells. Markdown, and
 /// records that are expanded, have none. If there are settings of rows, colours and attributes are
-/// written wherever the drawing goes.
+/// written wherever the drawing goes. The only error is `OutOfMemory`.
 ///
 /// If a width is kept, columns get what they need to keep numbers, dates and wide words whole, but
 /// no more than their greatest widths. A column with a greatest width is at most as wide as its
@@ -79,7 +80,8 @@ pub fn drawn_styled_records(
     RecordDrawing::of_records(String::new(alloc), left)
 }
 
-/// The text of that drawing.
+/// Draws records as `drawn_records` does, but returns the whole drawing as one text. The only error
+/// is `OutOfMemory`.
 pub fn text_of_records(
     alloc: Global,
     records: Records,
@@ -93,7 +95,8 @@ pub fn text_of_records(
     Ok(joined(alloc, drawn)?)
 }
 
-/// The text for records that are all there are: nothing where there are none.
+/// Draws the records of a whole input as one text, which is empty if there are none. The only error
+/// is `OutOfMemory`.
 pub fn output_of_records(alloc: Global, records: Records, layout: &Layout) -> Result<String>
     ensures { IfOk result (λ output.
         RendersAnyRecords layout.now records (string_bytes output)) }
@@ -101,8 +104,8 @@ pub fn output_of_records(alloc: Global, records: Records, layout: &Layout) -> Re
     output_of_styled_records(alloc, records, layout, Settings::none(alloc))
 }
 
-/// The text of `drawn_styled_records` for records that are all there are: nothing if there are
-/// none.
+/// Draws the records of a whole input as `drawn_styled_records` does, but returns one text, which
+/// is empty if there are none. The only error is `OutOfMemory`.
 pub fn output_of_styled_records(
     alloc: Global,
     records: Records,
@@ -129,17 +132,17 @@ fn arranged_contents(contents: LazyTable) -> Result<ArrangedTable<LazyTable>>
     ensures infos { IfOk result (λ arranged. IsArrangedTable contents.table
         (record { table = contents.table; infos = arranged.infos })) }
 {
-    // Said for the proof: rows are made of whole characters.
+    // This is for the proof: rows are made of whole characters.
     contents.rows.selected.hold_texts();
     ArrangedTable::of_contents(contents)
 }
 
-// What is drawn of records: a table of rows, or of expanded records.
+// The table that is drawn of records: one of rows, or one of expanded records.
 fn drawn_contents(selected: SelectedRecords, look: &Look, settings: Settings) -> Result<LazyTable>
     ensures { IfOk result (λ contents.
         AreDrawnContents settings look.now selected contents) }
 {
-    // The table of rows isn't needed to see this.
+    // The table of rows isn't needed for this decision.
     if look.expansion == Expansion::Always {
         return expanded_contents(selected, look);
     }
@@ -153,8 +156,8 @@ fn drawn_contents(selected: SelectedRecords, look: &Look, settings: Settings) ->
     Ok(contents)
 }
 
-// The table of rows, with decimal points below each other where there is room for that, and whether
-// there is room for the table.
+// The table of rows, and true if there is room for it. Decimal points are below each other if there
+// is room for that.
 fn fitting_contents(
     selected: SelectedRecords,
     look: &Look,
@@ -190,7 +193,7 @@ fn unaligned(rows: RecordRows) -> RecordRows
     rows
 }
 
-// The table of these rows, and whether there is room for it.
+// The table of these rows, and true if there is room for it.
 fn nowrap_contents(rows: RecordRows) -> Result<(LazyTable, bool)>
     requires { rows.is_expanded ≡ false }
     ensures table { IfOk result (λ x. x.0.table
@@ -270,7 +273,7 @@ fn markdown_beginning(arranged: &ArrangedTable<LazyTable>) -> Result<String>
     with_rule(contents, header.as_str())
 }
 
-// The lines of a header, with the line below it.
+// Inserts the line of dashes below the first line of a header.
 fn with_rule(contents: &LazyTable, header: &str) -> Result<String>
     ensures { IfOk result (λ text. (lines : List Text) → All HasNoBreak lines
         → header.now ≡ terminated_text_of lines → string_bytes text ≡ terminated_text_of
@@ -283,7 +286,7 @@ fn with_rule(contents: &LazyTable, header: &str) -> Result<String>
     }
 }
 
-// The same where the header's first line and the lines below it are known.
+// Writes the line of dashes between the header's first line and the lines below that.
 fn with_rule_between(contents: &LazyTable, first: &str, below: &str) -> Result<String>
     ensures { IfOk result (λ text. string_bytes text ≡ first.now
         ++ 0x0A ∷ (rule_line (sides contents.now.rows.selected)
@@ -299,7 +302,8 @@ fn with_rule_between(contents: &LazyTable, first: &str, below: &str) -> Result<S
     Ok(text)
 }
 
-// The line on records that aren't drawn, in Markdown below an empty one.
+// The line that reports records that aren't drawn; empty if there are none. In Markdown an empty
+// line comes before it.
 fn note_of(
     alloc: Global,
     is_markdown: bool,
@@ -321,8 +325,7 @@ fn note_of(
     Ok(note)
 }
 
-// Whether there are more records than so many. A count that isn't known is above all that are
-// drawn.
+// Returns true if there are more records than `limit`. A count that isn't known counts as more.
 fn are_more(limit: usize, count: Option<usize>) -> bool
     ensures { result ≡ are_more limit count }
 {
@@ -332,7 +335,7 @@ fn are_more(limit: usize, count: Option<usize>) -> bool
     }
 }
 
-// Appends how many records are drawn, and how many there are.
+// Appends a note such as `2 of 3 rows`, or `first 2 rows; there are more` if the count isn't known.
 fn push_note(
     note: &mut String,
     noun: Noun,

@@ -63,7 +63,8 @@ impl RecordRows {
         Ok(widest)
     }
 
-    // Lets a list have cells for the columns up to that at a place.
+    // Appends cells to a list until it has a name and a field for each column up to the one at a
+    // place.
     #[inline(always)]
     fn list_names<'r>(&'r self, cells: &mut Vec<RowCell<'r>>, place: usize) -> Result<()>
         requires named { AreNamed self.now (map cell_of cells.old.items) }
@@ -114,7 +115,7 @@ impl RecordRows {
 
     /// Appends the row of a field in the column at a place, below the top border if it is the
     /// first, else below the row separator. `cells` is an empty list at first, and keeps the names
-    /// for later records. The field takes the place of the one before.
+    /// for later records. The field replaces the field of the record before.
     pub fn push_pair<'r>(
         &'r self,
         text: &mut String,
@@ -161,7 +162,7 @@ impl RecordRows {
         Ok(widest)
     }
 
-    // The width of the widest number or date of a field that has room.
+    // The width of the widest number or date in a field that has room, in terminal columns, or 0.
     fn nowrap_width_of(&self, table: &Table, field: &str, room: u16) -> Result<u16>
         ensures value { IfOk result (λ width. width ≡ cell_nowrap_width room
             (measured_cell table.now (cell_for self.now.look None field.now))) }

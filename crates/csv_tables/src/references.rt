@@ -13,8 +13,8 @@ pub(crate) enum ReferenceKind {
     Hexadecimal,
 }
 
-/// Whether the text after an ampersand makes it a reference: a name, or `#` and a number, and then
-/// `;`.
+/// Returns true if the text after an ampersand makes it a reference: a name, or `#` and a number,
+/// and then `;`.
 pub(crate) fn begins_reference(behind: &str) -> bool
     ensures { result ≡ begins_reference (chars behind.now) }
 {
@@ -35,7 +35,7 @@ fn begins_number(text: &str) -> bool
     }
 }
 
-// Whether a text begins with what such a reference has, and `;`.
+// Returns true if a text begins with the name or the digits of such a reference, and then `;`.
 fn is_closed(kind: ReferenceKind, text: &str) -> bool
     ensures { result ≡ is_closed kind (chars text.now) }
 {
@@ -45,7 +45,7 @@ fn is_closed(kind: ReferenceKind, text: &str) -> bool
     }
 }
 
-// Whether `;` follows what goes on so.
+// Returns true if `;` follows any number of characters of this kind at the beginning of a text.
 fn closes(kind: ReferenceKind, text: &str) -> bool
     ensures { result ≡ closes kind (chars text.now) }
 {

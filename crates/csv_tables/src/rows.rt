@@ -1,4 +1,4 @@
-//! The rows of records, whose cells are made or lent when they are asked for.
+//! The rows of records. Cells are made or lent only when they are measured or drawn.
 
 ghost use Rattle.std.specs.Prelude.{◌≡◌, ◌<◌, ◌≤◌, ◌+◌, ◌++◌, ◌==◌, ◌∷◌, [], ℕ, false, IfOk, List, OnOk, Some, if◌then◌else◌, length, map, max, nat_lt, option_map, slice_get, string_bytes, true};
 ghost use Rattle.std.specs.List.{slice_index_or};
@@ -40,7 +40,7 @@ pub(crate) struct RecordRows {
 }
 
 impl RecordRows {
-    /// Their table, with a header if there is one, and without rows.
+    /// The table of these rows, with a header if there is one, but without the rows.
     pub fn headed_table(&self) -> Result<Table>
         ensures { IfOk result (λ table. table ≡ headed_by self.now) }
     {
@@ -53,8 +53,8 @@ impl RecordRows {
         }
     }
 
-    /// Lets widths have room for the row of the record at a place. Returns whether each of its
-    /// cells has at most one text line. Settings change neither.
+    /// Raises widths until they have room for the row of the record at a place. Returns true only
+    /// if each cell of the row has at most one text line. Settings change neither.
     pub fn widen(
         &self,
         widths: &mut Vec<u16>,
@@ -80,8 +80,8 @@ impl RecordRows {
         Ok(is_flat)
     }
 
-    // Lets widths have room for the number of the row at a place, if rows are numbered. Returns
-    // whether it has at most one text line.
+    // Raises the first width until it has room for the number of the row at a place, if rows are
+    // numbered. Returns true only if the number has at most one text line.
     #[inline(always)]
     fn widen_number(&self, widths: &mut Vec<u16>, table: &Table, at: usize) -> Result<bool>
         ensures each { (fields : List Text) → OnOk result ((i : ℕ)
@@ -130,8 +130,8 @@ impl RecordRows {
         writer.push_cells(text, cells.as_slice(), limit, extent)
     }
 
-    /// Whether the row of the record at a place is drawn in more than one line. `cells` is memory
-    /// that is used again.
+    /// Returns true if the row of the record at a place is drawn in more than one line. `cells` is
+    /// memory that is used again.
     pub fn is_tall<'r>(
         &'r self,
         writer: &RowWriter<'_>,
@@ -172,8 +172,9 @@ impl RecordRows {
         cell.longest_line(table, info)
     }
 
-    /// What the cell at a position of the row of the record at a place needs to be whole, or for
-    /// its widest word, in terminal columns; 0 if there is none.
+    /// The width that the cell at a position of the row of the record at a place needs, in terminal
+    /// columns: its whole width if `is_nowrap`, else the width of its widest word. 0 if there is no
+    /// such cell.
     pub fn cell_need(
         &self,
         table: &Table,
@@ -194,13 +195,13 @@ impl RecordRows {
         cell_need(self.alloc(), table, &cell, is_nowrap)
     }
 
-    /// The memory that is used.
+    /// The allocator of cells.
     pub(crate) fn alloc(&self) -> Global {
         let selected = &self.selected;
         selected.alloc
     }
 
-    // How many cells come before those of fields: 1 if rows are numbered, else 0.
+    // The number of cells before the cells of fields: 1 if rows are numbered, else 0.
     #[inline(always)]
     fn number_count(&self) -> usize
         ensures { result ≡ (if self.now.selected.is_numbered then 1 else 0) }
@@ -209,7 +210,7 @@ impl RecordRows {
         usize::from(selected.is_numbered)
     }
 
-    // How many cells the row of a record with these columns has.
+    // The number of cells in the row of a record that has fields of these columns.
     #[inline(always)]
     fn cell_count(&self, columns: &[ColumnPlan]) -> usize
         ensures { result
@@ -311,14 +312,14 @@ impl RecordRows {
     }
 }
 
-// Whether a cell hasn't several text lines.
+// Returns true only if a cell has at most one text line.
 #[inline(always)]
 fn has_one_line(cell: &RowCell<'_>) -> bool
     ensures { result ≡ true → length (cell_of cell.now).text_lines ≤ 1 }
 {
     match cell {
         RowCell::Lent(cell) => {
-            // its clause says that it has one
+            // this is for the proof: the call's clause states that the cell has one line
             let _ = cell.columns();
             true
         }
@@ -327,7 +328,7 @@ fn has_one_line(cell: &RowCell<'_>) -> bool
     }
 }
 
-// Lets the width at a position be at least this. Those before it that aren't there become 0.
+// Raises the width at a position to at least `least`. Missing widths before it become 0.
 fn widen_at(widths: &mut Vec<u16>, position: usize, least: u16) -> Result<(), AllocError>
     ensures each { OnOk result ((i : ℕ) → slice_index_or widths.new.items i 0
         ≡ max (slice_index_or widths.old.items i 0) (if i == position then least else 0)) }
@@ -341,7 +342,7 @@ fn widen_at(widths: &mut Vec<u16>, position: usize, least: u16) -> Result<(), Al
     Ok(())
 }
 
-// Lets a list have a width at a position.
+// Appends zeros until a list has a width at a position.
 fn lengthen(widths: &mut Vec<u16>, position: usize) -> Result<(), AllocError>
     ensures each { OnOk result ((i : ℕ) → slice_index_or widths.new.items i 0
         ≡ slice_index_or widths.old.items i 0) }

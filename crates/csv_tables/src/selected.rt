@@ -1,4 +1,4 @@
-//! What is drawn of some records.
+//! The selected part of some records.
 
 ghost use Rattle.std.specs.Prelude.{◌≡◌, All, IfOk, [], map, true, unwrap_or};
 ghost use Rattle.csv.specs.Records.{AllText};
@@ -24,16 +24,16 @@ pub struct SelectedRecords {
     pub(crate) alloc: Global,
     records: Records,
     has_header: bool,
-    // whether there is a header without fields if no record is one
+    // true if there is a header without fields when no record is the header
     is_headed: bool,
-    // how many rows are drawn
+    // the most rows that are drawn; `None` draws all
     limit: Option<usize>,
     // the number of records below the header, if it is known
     count: Option<usize>,
     pub(crate) columns: Vec<ColumnPlan>,
-    // for each column, the least position of it and of those after it
+    // for each column, the least position among it and the columns after it
     least_behind: Vec<usize>,
-    // whether a column of numbers is before them
+    // true if a column of numbers comes before the columns
     pub(crate) is_numbered: bool,
     // the word for a record in lines that count them
     pub(crate) noun: Noun,
@@ -61,8 +61,8 @@ impl Model for SelectedRecords {
 }
 
 impl SelectedRecords {
-    /// Selects what is drawn of these records. `count` is the number of records below the header,
-    /// if it is known.
+    /// Selects the rows and columns of these records that are drawn. `count` is the number of
+    /// records below the header, if it is known. The only error is `OutOfMemory`.
     pub fn new(
         alloc: Global,
         records: Records,
@@ -88,7 +88,7 @@ impl SelectedRecords {
         })
     }
 
-    /// The same with a header, which has no fields if no record is one.
+    /// Adds a header without fields if no record is the header.
     pub(crate) fn with_header(self) -> SelectedRecords
         ensures { result ≡ markdown_content self }
     {
@@ -97,7 +97,7 @@ impl SelectedRecords {
         selected
     }
 
-    /// The same with columns in the middle, if settings have them there.
+    /// Centres the columns whose settings centre them. Their decimal marks aren't lined up.
     pub(crate) fn with_centers(
         self,
         settings: &[ColumnSettings],
@@ -140,8 +140,8 @@ impl SelectedRecords {
         limited(&below, self.limit)
     }
 
-    /// Does nothing. What it ensures is that the fields that are drawn, and the names, are whole
-    /// characters.
+    /// Does nothing. It ensures for proofs that the names, and the fields that are drawn, are made
+    /// of whole characters.
     pub(crate) fn hold_texts(&self)
         ensures rows { All AllText self.now.rows }
         ensures names { AllText (unwrap_or self.now.names []) }
@@ -165,7 +165,7 @@ impl SelectedRecords {
         self.columns.as_slice()
     }
 
-    // Whether a record has the field of the last column, as most records do.
+    // Returns true if a record has the field of the last column, as most records do.
     #[inline(always)]
     fn has_last(&self, row: &Record<'_>) -> bool
         ensures { result ≡ true → columns_within row.now self.now.columns ≡ self.now.columns }
@@ -176,7 +176,7 @@ impl SelectedRecords {
         }
     }
 
-    /// The alignment of each column, that of numbers too.
+    /// The alignment of each column, beginning with the column of numbers if there is one.
     pub(crate) fn sides(&self) -> Result<Vec<Option<CellAlignment>>, AllocError>
         ensures { IfOk result (λ made. made.items ≡ sides self.now) }
     {
@@ -198,7 +198,7 @@ impl SelectedRecords {
     }
 }
 
-// Columns, some of them in the middle.
+// The columns, centred if their settings centre them.
 fn centered_columns(
     alloc: Global,
     columns: &[ColumnPlan],
@@ -227,7 +227,7 @@ fn centered(column: ColumnPlan, settings: &[ColumnSettings]) -> ColumnPlan
     }
 }
 
-// For each column, the least position of it and of those after it.
+// For each column, the least position among it and the columns after it.
 fn least_positions_of(alloc: Global, columns: &[ColumnPlan]) -> Result<Vec<usize>, AllocError>
     ensures { IfOk result (λ leasts. leasts.items ≡ least_positions columns.now) }
 {

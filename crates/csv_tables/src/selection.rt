@@ -1,4 +1,4 @@
-//! Which records and columns are drawn.
+//! The selection of the records and columns that are drawn.
 
 ghost use Rattle.std.specs.Prelude.{◌≡◌, ◌==◌, fold, length, max};
 ghost use Rattle.csv_records.specs.Longer.{filled_len};
@@ -8,14 +8,14 @@ ghost use Rattle.csv_tables.specs.Drawn.{column_count, drawn_rows, filled_column
 use csv_records::{Record, Rows};
 use std::marker::Model;
 
-/// Which records are drawn.
+/// The selection of the records that are drawn.
 #[derive(Clone, Copy, Debug)]
 pub struct Selection {
-    /// Whether the first record is the header.
+    /// True if the first record is the header.
     pub has_header: bool,
-    /// How many records below the header are drawn; all if there is no limit.
+    /// The most records below the header that are drawn; `None` draws all.
     pub limit: Option<usize>,
-    /// Whether the first column is `#`, with the number of each record below the header, counted
+    /// True if the first column is `#`, with the number of each record below the header, counted
     /// from 1. It has no position, and other columns keep theirs. Expanded records have their
     /// numbers above them anyway, and no such field.
     pub is_numbered: bool,
@@ -33,7 +33,7 @@ pub enum Noun {
 }
 
 impl Noun {
-    /// The word for one.
+    /// The word for one record.
     pub(crate) fn one(self) -> &'static str
         ensures { result.now ≡ one_of self }
     {
@@ -43,7 +43,7 @@ impl Noun {
         }
     }
 
-    /// The word for several, and for none.
+    /// The word for several records, and for no record.
     pub(crate) fn several(self) -> &'static str
         ensures { result.now ≡ several_of self }
     {
@@ -62,22 +62,22 @@ impl Selection {
         names_of(records, self.has_header).unwrap_or(records.blank())
     }
 
-    /// Those that are drawn below the header.
+    /// The records below the header that are drawn.
     pub fn rows<'a>(&self, records: &Rows<'a>) -> Rows<'a>
         ensures { result ≡ drawn_rows self.now records.now }
     {
         limited(&records_below(records, self.has_header), self.limit)
     }
 
-    /// How many columns the header and the drawn records have.
+    /// The number of columns: the most fields that the header or a drawn record has.
     pub fn column_count(&self, records: &Rows<'_>) -> usize
         ensures { result ≡ column_count self.now records.now }
     {
         count_of(&self.names(records), &self.rows(records))
     }
 
-    /// How many columns there are up to the last that has a name or a field that isn't empty; at
-    /// least one, unless there are no columns.
+    /// The number of columns up to the last one with a name or a field that isn't empty. It is at
+    /// least 1, unless there are no columns.
     pub fn filled_columns(&self, records: &Rows<'_>) -> usize
         ensures { result ≡ filled_columns self.now records.now }
     {
@@ -86,7 +86,7 @@ impl Selection {
     }
 }
 
-/// Which columns are drawn, by their positions, which are counted from 0.
+/// The columns that are drawn, by their positions, which are counted from 0.
 #[derive(Debug)]
 pub struct Columns {
     drawn: Vec<usize>,
@@ -117,9 +117,9 @@ impl Model for Columns {
 }
 
 impl Columns {
-    /// Those that are drawn, in their order, and those that are right-aligned and left-aligned. A
-    /// position in both lists is right-aligned. All others are right-aligned if their fields are
-    /// numbers. No record needs to have a field at such a position.
+    /// Selects the columns to draw, in their order, and sets which of them are right-aligned and
+    /// left-aligned. A position in both lists is right-aligned. All other columns are right-aligned
+    /// if their fields are numbers. No record needs to have a field at such a position.
     pub fn new(drawn: Vec<usize>, right: Vec<usize>, left: Vec<usize>) -> Columns
         ensures { result
             ≡ record { drawn = drawn.items; right = right.items; left = left.items } }
@@ -127,7 +127,7 @@ impl Columns {
         Columns { drawn, right, left }
     }
 
-    /// Whether none is drawn.
+    /// Returns true if no column is drawn.
     pub fn is_empty(&self) -> bool
         ensures { result ≡ (length self.now.drawn == 0) }
     {
@@ -153,7 +153,7 @@ impl Columns {
     }
 }
 
-// The greatest number of fields.
+// The most fields that the header or a row has.
 fn count_of(names: &Record<'_>, rows: &Rows<'_>) -> usize
     ensures { result ≡ count_of names.now rows.now }
 {
@@ -164,7 +164,7 @@ fn count_of(names: &Record<'_>, rows: &Rows<'_>) -> usize
     count
 }
 
-// How many fields a record has at most up to the last that isn't empty.
+// The most fields up to the last one that isn't empty, among the header and the rows.
 fn filled_len(names: &Record<'_>, rows: &Rows<'_>) -> usize
     ensures { result ≡ fold (λ n fields. max n (filled_len fields)) (filled_len names.now)
         rows.now }
@@ -196,7 +196,7 @@ pub(crate) fn records_below<'a>(records: &Rows<'a>, has_header: bool) -> Rows<'a
     }
 }
 
-/// The first rows, as many as are drawn.
+/// The first `limit` rows, or all if there is no limit.
 pub(crate) fn limited<'a>(rows: &Rows<'a>, limit: Option<usize>) -> Rows<'a>
     ensures { result ≡ limited limit rows.now }
 {

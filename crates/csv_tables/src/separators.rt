@@ -1,4 +1,4 @@
-//! Where lines between rows are drawn.
+//! Lines between rows, which are left out if they aren't wanted.
 
 ghost use Rattle.std.specs.Prelude.{◌≡◌, IfOk, OnOk, false, map, nat_lt, true};
 ghost use Rattle.std.specs.List.{list_any};
@@ -29,8 +29,8 @@ pub(crate) fn separate_rows(contents: &mut LazyTable, separators: RowSeparators)
     }
 }
 
-/// The same between the fields of expanded records: no line that only tall rows would need, since
-/// names part the fields.
+/// Leaves out the lines between the fields of expanded records, unless all lines of the style are
+/// wanted. Tall rows need none there, because names part the fields.
 pub(crate) fn separate_fields(contents: &mut LazyTable, separators: RowSeparators)
     ensures table { AreRowsSeparated (separators_in true separators) contents.old.table
         contents.new.table }
@@ -81,7 +81,7 @@ fn condensed_style(style: TableStyle) -> TableStyle
     style.row_separator(LineStyle::none())
 }
 
-// Whether a row is drawn in more than one line.
+// Returns true if a row is drawn in more than one line.
 fn has_tall_row(contents: &LazyTable) -> Result<bool>
     requires { contents.now.rows.is_expanded ≡ false }
     ensures { IfOk result (λ is_tall. HasTallRow contents.now.table is_tall) }
@@ -94,7 +94,7 @@ fn has_tall_row(contents: &LazyTable) -> Result<bool>
     is_any_tall(&contents.rows, &writer)
 }
 
-// Whether the row of a record is drawn in more than one line.
+// Returns true if the row of any record is drawn in more than one line.
 fn is_any_tall(rows: &RecordRows, writer: &RowWriter<'_>) -> Result<bool>
     requires { rows.now.is_expanded ≡ false }
     ensures { IfOk result (λ is. is ≡ list_any (nat_lt 1)

@@ -14,20 +14,21 @@ use std::marker::Model;
 /// The settings of a column in a table of rows. Numbers count terminal columns.
 #[derive(Clone, Copy, Debug, PartialEq, Eq)]
 pub struct ColumnSettings {
-    /// How many are left free to the left and to the right of its texts.
+    /// The terminal columns left free to the left and to the right of its texts.
     pub padding: (u16, u16),
-    /// How many its texts have at least.
+    /// The least width of its texts; `None` sets none.
     pub least: Option<u16>,
-    /// How many its texts have at most, but never fewer than `least`, and never fewer than 1.
-    /// Longer texts are wrapped.
+    /// The greatest width of its texts; `None` sets none. A number below `least`, or below 1, is
+    /// raised to that. Longer texts are wrapped.
     pub greatest: Option<u16>,
-    /// Whether its texts are in the middle, whatever side `Columns` gives them. Their decimal
-    /// points aren't below each other then.
+    /// True if its texts are centred, whatever side `Columns` gives them. Their decimal points
+    /// aren't below each other then.
     pub is_centered: bool,
 }
 
 impl ColumnSettings {
-    /// Those of a column that has nothing of its own: one is left free on both sides.
+    /// The settings of a column for which nothing is set: one terminal column is left free on both
+    /// sides.
     pub fn none() -> ColumnSettings
         ensures { result ≡ unset }
     {
@@ -43,7 +44,7 @@ impl ColumnSettings {
 /// The settings of a cell in a table of rows.
 #[derive(Debug)]
 pub struct CellSettings {
-    /// Its alignment, in place of that of its column.
+    /// Its alignment; `None` keeps the alignment of its column.
     pub alignment: Option<CellAlignment>,
     /// The colour of its text.
     pub foreground: Option<Color>,
@@ -78,14 +79,14 @@ impl Model for CellSettings {
 }
 
 impl CellSettings {
-    /// The alignment of a cell that would have this one without them.
+    /// The alignment of a cell that would have `alignment` without these settings.
     pub(crate) fn side(&self, alignment: Option<CellAlignment>) -> Option<CellAlignment>
         ensures { result ≡ option_or self.now.alignment alignment }
     {
         self.alignment.or(alignment)
     }
 
-    /// Whether they have no colour and no attribute.
+    /// Returns true if they have no colour and no attribute.
     pub(crate) fn is_plain(&self) -> bool
         ensures foreground { result ≡ true → self.now.foreground ≡ None }
         ensures background { result ≡ true → self.now.background ≡ None }
@@ -94,7 +95,8 @@ impl CellSettings {
         self.foreground.is_none() && self.background.is_none() && self.attributes.is_empty()
     }
 
-    /// A cell with these settings. Its own attributes come first.
+    /// A cell with these settings. The cell's own attributes come first. The only error is
+    /// `OutOfMemory`.
     pub fn dressed(&self, cell: Cell) -> Result<Cell>
         ensures { IfOk result (λ made. made ≡ dressed (Some self.now) cell) }
     {
@@ -134,8 +136,8 @@ fn coloured(cell: Cell, foreground: Option<Color>, background: Option<Color>) ->
 /// The settings of a row in a table of rows.
 #[derive(Debug)]
 pub struct RowSettings {
-    /// How many lines it has at most, in place of what the look says; 0 counts as 1. The header
-    /// has no such limit.
+    /// The most lines of the row, in place of the look's limit; 0 counts as 1. The header has no
+    /// such limit.
     pub max_height: Option<usize>,
     /// The settings of its cells. The item at a position is for the field at this position of its
     /// record. Fields past the last item have no settings, and neither has the row's number.
@@ -160,7 +162,7 @@ impl Model for RowSettings {
 }
 
 impl RowSettings {
-    /// How many lines a row has at most that would have this limit without them.
+    /// The most lines of a row that would have the limit `limit` without these settings.
     pub(crate) fn limit(&self, limit: Option<usize>) -> Option<usize>
         ensures { result ≡ option_or self.now.max_height limit }
     {
@@ -178,12 +180,12 @@ impl RowSettings {
 /// The settings of a table of rows.
 #[derive(Debug)]
 pub struct Settings {
-    /// Those of its columns. The item at a position is for the fields at this position of the
-    /// records. Columns past the last item have no settings, and neither has the column of
+    /// The settings of its columns. The item at a position is for the fields at this position of
+    /// the records. Columns past the last item have no settings, and neither has the column of
     /// numbers.
     pub columns: Vec<ColumnSettings>,
-    /// Those of its rows. The first item is for the header, and isn't used if there is none. The
-    /// items after it are for the records in their order. Records past the last item have no
+    /// The settings of its rows. The first item is for the header, and isn't used if there is none.
+    /// The items after it are for the records in their order. Records past the last item have no
     /// settings.
     pub rows: Vec<RowSettings>,
 }
@@ -206,7 +208,7 @@ impl Model for Settings {
 }
 
 impl Settings {
-    /// Those of a table that has nothing of its own.
+    /// The settings of a table for which nothing is set.
     pub fn none(alloc: Global) -> Settings
         ensures { result ≡ no_settings }
     {
@@ -216,14 +218,14 @@ impl Settings {
         }
     }
 
-    /// Those of its columns.
+    /// The settings of its columns.
     pub(crate) fn of_columns(&self) -> &[ColumnSettings]
         ensures { result.now ≡ self.now.columns }
     {
         self.columns.as_slice()
     }
 
-    /// Those of its header and its rows.
+    /// The settings of its header and its rows.
     pub(crate) fn of_rows(&self) -> &[RowSettings]
         ensures { result.now ≡ self.now.rows }
     {
@@ -231,7 +233,7 @@ impl Settings {
     }
 }
 
-/// The settings of the cells of a row, which are none if the row has no settings.
+/// The settings of the cells of a row. The list is empty if the row has no settings.
 #[inline(always)]
 pub(crate) fn cell_settings(row: Option<&RowSettings>) -> &[CellSettings]
     ensures { result.now ≡ cell_settings (option_map (λ row. row.now) row.entry) }
@@ -242,7 +244,7 @@ pub(crate) fn cell_settings(row: Option<&RowSettings>) -> &[CellSettings]
     }
 }
 
-/// The settings of the cell of the field at a position, if it has some.
+/// The settings of the cell of the field at a position, if it has any.
 #[inline(always)]
 pub(crate) fn settings_of(settings: &[CellSettings], position: usize) -> Option<&CellSettings>
     ensures { option_map (λ own. own.now) result ≡ slice_get settings.now position }
@@ -250,7 +252,7 @@ pub(crate) fn settings_of(settings: &[CellSettings], position: usize) -> Option<
     settings.get(position)
 }
 
-/// How many lines a row has at most, by its settings if they say so, else by the look.
+/// The most lines of a row: the limit of its settings if they have one, else the look's.
 #[inline(always)]
 pub(crate) fn limit_by(row: Option<&RowSettings>, look: &Look) -> Option<usize>
     ensures { result ≡ limit_by (option_map (λ row. row.now) row.entry) look.now }

@@ -1,4 +1,4 @@
-//! What the fields of each column say together, found in one pass over the records.
+//! Summaries of the fields of each column, made in one pass over the records.
 
 ghost use Rattle.std.specs.Prelude.{◌≡◌, ◌<◌, ◌==◌, ◌++◌, ◌∷◌, ℕ, List, [], IfOk, OnOk, if◌then◌else◌, false, length, map, true};
 ghost use Rattle.std.specs.List.{slice_index_or};
@@ -16,18 +16,18 @@ use crate::nowrap::{is_nowrap, is_short, is_stamp};
 use csv_records::{ColumnMarks, FieldNumber, Record, Rows, is_neutral, number_in};
 use std::alloc::{AllocError, Global};
 
-/// What fields of one column say together.
+/// A summary of the fields of one column.
 #[derive(Clone, Copy)]
 pub(crate) struct ColumnSummary {
-    /// Whether they are numbers.
+    /// Their common kind: `Other` if a field is of this kind, else `Number` if one is.
     pub(crate) kind: FieldKind,
-    /// Their decimal marks, if each of them is narrow, and a number or neutral.
+    /// Their decimal marks, if each field is narrow, and is a number or neutral.
     pub(crate) marks: Option<ColumnMarks>,
-    /// Whether each of them is a number or a date, which isn't broken.
+    /// True if each field is a number or a date that isn't broken over lines.
     pub(crate) are_nowrap: bool,
 }
 
-/// What a field says of its column.
+/// The kind of a field, by which its column is aligned.
 #[derive(Clone, Copy)]
 pub(crate) enum FieldKind {
     Number,
@@ -37,7 +37,7 @@ pub(crate) enum FieldKind {
 }
 
 impl ColumnSummary {
-    // What no field says.
+    // The summary of no fields.
     fn new() -> ColumnSummary
         ensures { result ≡ summary_of [] }
     {
@@ -48,7 +48,7 @@ impl ColumnSummary {
         }
     }
 
-    // Adds what one field more says, by what is seen of it.
+    // Adds a field, by its visible text.
     fn add(&mut self, alloc: Global, field: &str, has_sequences: bool) -> Result<(), AllocError>
         ensures { OnOk result ((fields : List (List ℕ)) → self.old ≡ summary_of fields
             → self.new ≡ summary_of (fields ++ visible_of has_sequences field.now ∷ [])) }
@@ -65,7 +65,7 @@ impl ColumnSummary {
         Ok(())
     }
 
-    // Adds what one field more says. Many are empty, and say nothing.
+    // Adds a field, given its visible text. Many fields are empty, and change nothing.
     fn add_seen(&mut self, field: &str)
         ensures { (fields : List (List ℕ)) → self.old ≡ summary_of fields
             → self.new ≡ summary_of (fields ++ field.now ∷ []) }
@@ -79,7 +79,7 @@ impl ColumnSummary {
         }
     }
 
-    // Adds what one field more says, if a field before it isn't a number.
+    // Adds a field, if a field before it is neither a number nor neutral.
     fn add_other(&mut self, field: &str)
         ensures { is_other_kind self.old.kind ≡ true → (fields : List (List ℕ))
             → self.old ≡ summary_of fields → self.new ≡ summary_of (fields ++ field.now ∷ []) }
@@ -87,7 +87,7 @@ impl ColumnSummary {
         self.are_nowrap = self.are_nowrap && is_nowrap(field);
     }
 
-    // Adds what one field more says, by what it says as a number.
+    // Adds a field. `number` is the result of reading it as a number.
     fn add_number(&mut self, field: &str, number: FieldNumber)
         ensures { number ≡ number_of field.now → (fields : List (List ℕ))
             → self.old ≡ summary_of fields → self.new ≡ summary_of (fields ++ field.now ∷ []) }
@@ -98,7 +98,7 @@ impl ColumnSummary {
         add_marks(&mut self.marks, field, number);
     }
 
-    // Whether no further field changes that.
+    // Returns true only if no further field changes the summary.
     fn is_settled(self) -> bool
         ensures { result ≡ true → (fields : List (List ℕ)) → self ≡ summary_of fields
             → (field : List ℕ) → self ≡ summary_of (fields ++ field ∷ []) }
@@ -107,8 +107,8 @@ impl ColumnSummary {
     }
 }
 
-/// What the fields of each column say as they are seen, by its position. Each record is looked at
-/// up to its last field, since most may have few of the columns.
+/// The summary of the visible texts of each column, by its position. Each record is read only up to
+/// its last field, because many records may have few of the columns.
 pub(crate) fn summaries_of(
     alloc: Global,
     rows: &Rows<'_>,
@@ -124,7 +124,7 @@ pub(crate) fn summaries_of(
     Ok(summaries)
 }
 
-// Adds what the fields of a record say of their columns.
+// Adds the fields of a record to the summaries of their columns.
 fn add_record(
     alloc: Global,
     summaries: &mut Vec<ColumnSummary>,
@@ -142,7 +142,7 @@ fn add_record(
 }
 
 // Adds a field to the summary of the column at its position. Positions after the end of the list
-// have the summary of no field.
+// have the summary of no fields.
 fn add_field(
     alloc: Global,
     summaries: &mut Vec<ColumnSummary>,
@@ -163,7 +163,7 @@ fn add_field(
     Ok(())
 }
 
-/// What the fields of the column at a position say.
+/// The summary of the fields of the column at a position.
 pub(crate) fn summary_at(summaries: &[ColumnSummary], position: usize) -> ColumnSummary
     ensures { result ≡ slice_index_or summaries.now position (summary_of []) }
 {
@@ -173,7 +173,7 @@ pub(crate) fn summary_at(summaries: &[ColumnSummary], position: usize) -> Column
     }
 }
 
-// Lets a list have a summary at a position.
+// Appends summaries of no fields until a list has one at a position.
 fn widen(summaries: &mut Vec<ColumnSummary>, position: usize) -> Result<(), AllocError>
     ensures long { OnOk result (position < length summaries.new.items) }
     ensures same { OnOk result ((at : ℕ) → slice_index_or summaries.new.items at (summary_of [])
@@ -187,8 +187,8 @@ fn widen(summaries: &mut Vec<ColumnSummary>, position: usize) -> Result<(), Allo
 
 // ---- one field more
 
-// Whether a field isn't broken. One that is a number or neutral only has to be short, or a time
-// stamp.
+// Returns true if a field isn't broken over lines. A number or a neutral field only has to be
+// short, or a time stamp.
 fn is_nowrap_of(kind: FieldKind, field: &str) -> bool
     ensures { kind ≡ kind_of field.now → result ≡ is_nowrap field.now }
 {
@@ -198,7 +198,7 @@ fn is_nowrap_of(kind: FieldKind, field: &str) -> bool
     }
 }
 
-// What two fields say of one column.
+// The common kind of two fields of one column.
 fn joined_kind(one: FieldKind, other: FieldKind) -> FieldKind
     ensures { result ≡ joined_kind one other }
 {
@@ -209,7 +209,7 @@ fn joined_kind(one: FieldKind, other: FieldKind) -> FieldKind
     }
 }
 
-// What a field says of its column, by what it says as a number.
+// The kind of a field. `number` is the result of reading it as a number.
 fn kind_of(field: &str, number: FieldNumber) -> FieldKind
     ensures { number ≡ number_of field.now → result ≡ kind_of field.now }
 {
@@ -222,8 +222,8 @@ fn kind_of(field: &str, number: FieldNumber) -> FieldKind
     }
 }
 
-// Adds what one field more says of the decimal mark, as long as all fields are narrow, and numbers
-// or neutral.
+// Adds a field to the decimal marks of its column, as long as each field is narrow, and is a number
+// or neutral. Otherwise there are no marks any more.
 fn add_marks(marks: &mut Option<ColumnMarks>, field: &str, number: FieldNumber)
     ensures { number ≡ number_of field.now → (fields : List (List ℕ))
         → marks.old ≡ narrow_marks fields → marks.new ≡ narrow_marks (fields ++ field.now ∷ []) }
@@ -240,7 +240,8 @@ fn add_marks(marks: &mut Option<ColumnMarks>, field: &str, number: FieldNumber)
     }
 }
 
-// Whether a field is narrow. Digits and decimal marks are printable ASCII, without a look at each.
+// Returns true if a field is narrow. Digits and decimal marks are printable ASCII, so that only the
+// length of a bare number is checked.
 fn is_narrow_number(field: &str, number: FieldNumber) -> bool
     ensures { number ≡ number_of field.now → result ≡ is_narrow field.now }
 {

@@ -47,7 +47,8 @@ impl SelectedRecords {
     }
 }
 
-/// A table without rows that looks as is wanted, and is styled anyway if `is_styled`.
+/// A table without rows that has this look. If `is_styled`, or if the header is bold, colours and
+/// attributes are written wherever the drawing goes.
 pub(crate) fn empty_table(alloc: Global, is_styled: bool, look: &Look) -> Table
     ensures { result ≡ record (empty_table look.now) {
       enforce_styling = is_styled || look.now.has_bold_header;
@@ -69,7 +70,7 @@ pub(crate) fn empty_table(alloc: Global, is_styled: bool, look: &Look) -> Table
     table
 }
 
-// How the widths of the columns are found.
+// The rule for the widths of the columns.
 fn arrangement_of(look: &Look) -> ContentArrangement
     ensures { result ≡ arrangement_for look.now.width look.now.fills_width }
 {
@@ -80,7 +81,7 @@ fn arrangement_of(look: &Look) -> ContentArrangement
     }
 }
 
-/// How a table for Markdown looks, whatever else is wanted.
+/// The look of a table for Markdown, whatever else `look` sets.
 pub(crate) fn markdown_look(look: Look) -> Look
     ensures { result ≡ markdown_look look }
 {
@@ -96,7 +97,7 @@ pub(crate) fn markdown_look(look: Look) -> Look
     }
 }
 
-// The style of such a table, without the line below the header.
+// The style of a table for Markdown, without the line below the header, which `push_rule` writes.
 fn markdown_style() -> TableStyle
     ensures { result ≡ markdown_style }
 {
