@@ -7,7 +7,8 @@ use std::alloc::{AllocError, Global};
 
 const PROGRAM: &str = "csvtable";
 
-/// The program's name, and the arguments of a text.
+/// The program's name, and then the arguments in a text. A zero byte ends each argument; that of
+/// the last one may be missing. An empty text has no arguments.
 pub(crate) fn command_line(alloc: Global, text: &str) -> Result<Vec<&str>, AllocError>
     ensures { IfOk result (λ arguments.
         IsCommandLine text.now (map (λ argument. argument.now) arguments.items)) }

@@ -21,7 +21,7 @@ pub(crate) const SETTINGS_REFUSED: u32 = 4;
 pub(crate) const LENGTHS_REFUSED: u32 = 5;
 
 /// Copies bytes to the front of the caller's buffer, if it has room for all of them, and sets
-/// `needed` to their number. Returns whether it had room.
+/// `needed` to their number. Returns true if it had room. Otherwise the buffer is unchanged.
 pub(crate) fn put(bytes: &[u8], output: &mut [u8], needed: &mut usize) -> bool
     ensures fits { result ≡ nat_le (length bytes.now) (length output.old) }
     ensures needed { needed.new ≡ length bytes.now }
@@ -36,7 +36,7 @@ pub(crate) fn put(bytes: &[u8], output: &mut [u8], needed: &mut usize) -> bool
 }
 
 /// Puts a drawing into the caller's buffer, if there is one. Returns the number for the drawing or
-/// for its refusal.
+/// for the refusal. The buffer is changed only with 0, and `needed` only with 0 and 1.
 pub(crate) fn hand_over(
     made: Result<String, DrawRefusal>,
     output: &mut [u8],

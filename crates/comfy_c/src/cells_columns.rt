@@ -12,8 +12,8 @@ use std::alloc::{AllocError, Global};
 #[derive(Clone, Copy, Debug)]
 #[repr(C)]
 pub struct WidthNumbers {
-    /// A flag: `value` is percent of the table's width without its borders. Else it is terminal
-    /// columns.
+    /// A flag: `value` is a percentage of the table's width without its borders. If the flag isn't
+    /// set, `value` is in terminal columns.
     pub is_percentage: u16,
     pub value: u16,
 }
@@ -24,21 +24,21 @@ pub struct WidthNumbers {
 pub struct ColumnNumbers {
     /// The terminal columns left free at the left of contents.
     pub left_padding: u16,
-    /// Those at the right.
+    /// The terminal columns left free at the right of contents.
     pub right_padding: u16,
     /// The character at which texts may break; 0 for none.
     pub delimiter: u32,
-    /// The side of texts, as in a cell.
+    /// The alignment of texts, as in a cell.
     pub alignment: u32,
-    /// 1 if it isn't drawn, 2 if it is as wide as its content, 3 if it has the width `width`, 4 if
-    /// it has at least this, 5 at most this, 6 at least this and at most `upper`. Any other number
-    /// sets no constraint.
+    /// The constraint: 1 if the column isn't drawn, 2 if it is as wide as its content, 3 if its
+    /// width is `width`. The width is at least `width` with 4, at most `width` with 5, and from
+    /// `width` to `upper` with 6. Any other number sets no constraint.
     pub constraint: u32,
     pub width: WidthNumbers,
     pub upper: WidthNumbers,
 }
 
-/// The columns of these numbers.
+/// The columns that these numbers describe.
 pub(crate) fn columns_of(
     alloc: Global,
     numbers: &[ColumnNumbers],

@@ -1,4 +1,4 @@
-//! Tables of cells with settings of their own.
+//! Draws tables of cells that have settings of their own.
 
 ghost use Rattle.std.specs.Prelude.{◌≡◌, ◌≢◌, ◌≤◌, ◌<◌, ◌+◌, All, IfErr, IfOk, List, Some, ℕ, drop, length, map, slice_get, string_bytes, take};
 ghost use Rattle.comfy_parts.specs.CellValue.{CellValue, IsRow};
@@ -22,7 +22,7 @@ use comfy_table::{ArrangedTable, Row, Table, TableParts, Terminal};
 use simdutf8::basic::from_utf8;
 use std::alloc::{AllocError, Global};
 
-// What `CellsSettings::form` asks for.
+// The values of `CellsSettings::form`.
 
 const LINES: u32 = 0;
 
@@ -47,7 +47,7 @@ pub(crate) const CONTENT_WIDTHS: u32 = 2;
 /// | 4 | `form`, `style` or `arrangement` has no meaning | unchanged |
 /// | 5 | lengths or counts don't add up | unchanged |
 ///
-/// Settings are looked at first, then lengths and counts, and last the texts and the indicator.
+/// Settings are checked first, then lengths and counts, and last the texts and the indicator.
 ///
 /// With 1 to 5 the buffer is unchanged. With 0 it is unchanged after the drawing.
 #[unsafe(no_mangle)]
@@ -83,7 +83,7 @@ pub extern "C" fn comfy_cells_draw(
     hand_over(made, output, needed)
 }
 
-// The drawing that `form` asks for, or the reason for which there is none.
+// The output that `form` chooses, or the reason why there is none.
 fn cells_drawing(
     alloc: Global,
     texts: &[u8],
@@ -108,8 +108,8 @@ fn cells_drawing(
     other_drawing(alloc, texts, cells, rows, columns, indicator, settings)
 }
 
-// The lines of the table without the white space at their ends, or the widths of its contents. It
-// is never inlined, because each drawing would pay for the size of the table in it.
+// The lines of the table without the white space at their ends, or the widths of its contents. This
+// is never inlined, because each drawing would then pay for the size of the table in it.
 #[inline(never)]
 fn other_drawing(
     alloc: Global,
@@ -159,13 +159,15 @@ fn lines_of(
     )?;
     let arranged = ArrangedTable::of_contents(lent)?;
     let mut text = String::new(alloc);
-    // Most drawings have room then. If there is no memory for it, the text grows as it is needed.
+    // Most drawings fit into this room. If there is no memory for it, the text grows as it is
+    // needed.
     let _ = text.reserve(room_for(texts.len(), cells.len()));
     push_table(&mut text, &arranged)?;
     Ok(text)
 }
 
-// The bytes that most drawings of texts of these bytes, in this number of cells, have at most.
+// The most bytes of most drawings. `bytes` is the length of all texts, and `cells` the number of
+// cells.
 fn room_for(bytes: usize, cells: usize) -> usize {
     bytes
         .saturating_mul(3)
@@ -241,7 +243,8 @@ fn table_of(
     Ok(table)
 }
 
-// The style and the arrangement that settings ask for.
+// The style and the arrangement that settings choose. They are refused if one of the numbers has no
+// meaning.
 fn asked_for(settings: &CellsSettings) -> Result<(TableStyle, ContentArrangement), DrawRefusal>
     ensures style { IfOk result (λ asked.
         style_for settings.now.style settings.now.frame ≡ Some asked.0) }
@@ -319,7 +322,7 @@ fn header_of(
     Ok(Some(header))
 }
 
-// How many cells the header has, and the rows below it.
+// The number of cells in the header, and the rows below it. Without a header, 0 and all rows.
 fn rows_below<'a>(settings: &CellsSettings, rows: &'a [RowNumbers]) -> (usize, &'a [RowNumbers])
     ensures rows { (cells : List CellValue)
         → below_header settings.now (rows_with rows.now cells)

@@ -23,9 +23,9 @@ pub(crate) struct LentTable<'a> {
     // its header, its columns and its settings, without rows
     table: Table,
     rows: &'a [RowNumbers],
-    // those of all rows
+    // the cells of all rows
     cells: Vec<RowCell<'a>>,
-    // the greatest width of the cells at each position, without the header
+    // the greatest content width of the cells at each position, without the header
     widths: Vec<u16>,
 }
 
@@ -147,7 +147,7 @@ fn push_rows(
     writer.push_rows(text, &[], end)
 }
 
-// Lets widths have room for the cells of these rows.
+// Raises widths until they have room for the cells of these rows.
 fn widen_rows(
     widths: &mut Vec<u16>,
     table: &Table,
@@ -168,7 +168,7 @@ fn widen_rows(
     Ok(())
 }
 
-// Lets widths have room for the cells of a row.
+// Raises widths until they have room for the cells of a row.
 fn widen_row(widths: &mut Vec<u16>, table: &Table, cells: &[RowCell<'_>]) -> Result<(), AllocError>
     ensures { OnOk result ((i : ℕ) → slice_index_or widths.new.items i 0
         ≡ max (slice_index_or widths.old.items i 0) (measured_at table.now cell_content_width
@@ -180,7 +180,7 @@ fn widen_row(widths: &mut Vec<u16>, table: &Table, cells: &[RowCell<'_>]) -> Res
     Ok(())
 }
 
-// Lets the width at a position be at least this. Those before it that aren't there become 0.
+// Raises the width at a position to at least `least`. Missing widths before it become 0.
 #[inline(always)]
 fn widen_at(widths: &mut Vec<u16>, position: usize, least: u16) -> Result<(), AllocError>
     ensures { OnOk result ((i : ℕ) → slice_index_or widths.new.items i 0
@@ -193,7 +193,7 @@ fn widen_at(widths: &mut Vec<u16>, position: usize, least: u16) -> Result<(), Al
     Ok(())
 }
 
-// Lets a list have a width at a position.
+// Appends zeros until a list has a width at a position.
 #[inline(always)]
 fn lengthen(widths: &mut Vec<u16>, position: usize) -> Result<(), AllocError>
     ensures each { OnOk result ((i : ℕ) → slice_index_or widths.new.items i 0
@@ -237,7 +237,8 @@ fn longest_in_rows(
     Ok(longest)
 }
 
-// The longest line of the cell at a position; 0 if there is none.
+// The longest line of the cell at a position, as it is wrapped in a column, in terminal columns. 0
+// if there is no such cell.
 fn longest_at(
     table: &Table,
     cells: &[RowCell<'_>],

@@ -1,4 +1,4 @@
-//! What the numbers of a cell stand for.
+//! The meaning of the numbers of a cell.
 
 ghost use Rattle.std.specs.Prelude.{◌≡◌, [], None, IfOk, IfSome, slice_index_or, true};
 ghost use Rattle.comfy_table.specs.Styling.{all_attributes};
@@ -13,8 +13,8 @@ use std::alloc::{AllocError, Global};
 #[derive(Clone, Copy, Debug)]
 #[repr(C)]
 pub struct ColorNumbers {
-    /// 1 for the terminal's own, 2 for the one of 256 that `number` counts, and 3 for one by its
-    /// parts. Any other number stands for none.
+    /// 1 for the terminal's own colour, 2 for the colour `number` of 256 colours, and 3 for a
+    /// colour by its red, green and blue parts. Any other number sets no colour.
     pub kind: u8,
     pub number: u8,
     pub red: u8,
@@ -22,19 +22,19 @@ pub struct ColorNumbers {
     pub blue: u8,
 }
 
-/// How a text looks.
+/// The look of a text.
 #[derive(Clone, Copy, Debug)]
 #[repr(C)]
 pub struct LookNumbers {
     /// The alignment: 1 for left, 2 for right, 3 for centred. Any other number sets none.
     pub alignment: u32,
-    /// A bit for each attribute, in the order of `Attribute`, that of the first one worth 1.
+    /// A bit for each attribute, in the order of `Attribute`. The lowest bit is for the first one.
     pub attributes: u32,
     pub foreground: ColorNumbers,
     pub background: ColorNumbers,
 }
 
-// Stands for U+0000, since 0 stands for no character: the number behind the last character's.
+// Means U+0000, because 0 means no character. It is the number after the greatest code point.
 const NUL: u32 = 0x11_0000;
 
 static ATTRIBUTES: [Attribute; 28] = [
@@ -68,7 +68,7 @@ static ATTRIBUTES: [Attribute; 28] = [
     Attribute::NotOverLined,
 ];
 
-/// The character of this number; none for 0, and where it isn't that of one.
+/// The character with this code point. `None` for 0, and for a number that is no character's.
 pub(crate) fn char_of(number: u32) -> Option<char>
     ensures { result ≡ char_of number }
 {
@@ -79,7 +79,7 @@ pub(crate) fn char_of(number: u32) -> Option<char>
     }
 }
 
-/// Where texts stand.
+/// The alignment of texts; `None` if the number sets none.
 pub(crate) fn alignment_of(number: u32) -> Option<CellAlignment>
     ensures { result ≡ slice_index_or alignments number None }
 {
@@ -91,7 +91,7 @@ pub(crate) fn alignment_of(number: u32) -> Option<CellAlignment>
     }
 }
 
-/// The colour of these numbers; none if they set none.
+/// The colour of these numbers; `None` if they set no colour.
 pub(crate) fn color_of(color: ColorNumbers) -> Option<Color>
     ensures { result ≡ color_of color }
 {
@@ -125,7 +125,7 @@ fn attributes_of(alloc: Global, bits: u32) -> Result<Vec<Attribute>, AllocError>
     Ok(attributes)
 }
 
-/// The attributes whose bits are set; none for several attributes.
+/// The attributes whose bits are set; `None` for several attributes.
 pub(crate) fn lent_attributes(bits: u32) -> Option<&'static [Attribute]>
     ensures { IfSome result (λ attributes.
         attributes.now ≡ attributes_by all_attributes bits) }
@@ -133,7 +133,7 @@ pub(crate) fn lent_attributes(bits: u32) -> Option<&'static [Attribute]>
     lent_among(&ATTRIBUTES, bits)
 }
 
-// Those of some attributes whose bits are set; none for several ones.
+// The attributes of `all` whose bits are set; `None` for several attributes.
 fn lent_among(all: &'static [Attribute], bits: u32) -> Option<&'static [Attribute]>
     ensures { IfSome result (λ own. own.now ≡ attributes_by all.now bits) }
 {
@@ -151,7 +151,7 @@ fn lent_among(all: &'static [Attribute], bits: u32) -> Option<&'static [Attribut
 }
 
 impl LookNumbers {
-    /// Whether the text is known to have neither a colour nor an attribute.
+    /// Returns true only if the text has neither a colour nor an attribute.
     #[inline(always)]
     pub(crate) fn is_plain(&self) -> bool
         ensures foreground { result ≡ true → color_of self.now.foreground ≡ None }
@@ -163,7 +163,7 @@ impl LookNumbers {
     }
 }
 
-/// The settings of a text that looks so.
+/// The settings of a text with this look.
 pub(crate) fn look_settings(alloc: Global, look: &LookNumbers) -> Result<CellSettings, AllocError>
     ensures { IfOk result (λ settings. settings ≡ look_settings look.now) }
 {

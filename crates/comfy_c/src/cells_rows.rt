@@ -39,7 +39,8 @@ pub struct RowNumbers {
     pub max_height: usize,
 }
 
-/// The rows of these numbers, with cells and texts in their order.
+/// The rows that these numbers describe, with cells and texts in their order. Refuses what
+/// `texts_of` refuses.
 pub(crate) fn rows_of(
     alloc: Global,
     rows: &[RowNumbers],
@@ -57,7 +58,7 @@ pub(crate) fn rows_of(
     Ok(rows_by(alloc, rows, cells, texts.as_slice())?)
 }
 
-/// The text of each cell, in a block of texts.
+/// The text of each cell, from the block of all texts. Refuses what `texts_of` refuses.
 pub(crate) fn cell_texts<'a>(
     alloc: Global,
     rows: &[RowNumbers],
@@ -80,7 +81,7 @@ pub(crate) fn cell_texts<'a>(
     Ok(found)
 }
 
-// The bytes of the text of each cell.
+// The length of the text of each cell, in bytes.
 fn lengths_of(alloc: Global, cells: &[CellNumbers]) -> Result<Vec<usize>, AllocError>
     ensures { IfOk result (λ lengths. lengths.items ≡ lengths_of cells.now) }
 {
@@ -133,7 +134,7 @@ pub(crate) fn row_of(
     Ok(made)
 }
 
-/// The most lines of a row; none for 0 and for the greatest number.
+/// The most lines of a row. `None` for 0 and for the greatest number, which set no limit.
 pub(crate) fn height_of(number: usize) -> Option<usize>
     ensures { result ≡ height_of number }
 {
@@ -177,8 +178,8 @@ fn aligned(cell: Cell, alignment: Option<CellAlignment>) -> Cell
     }
 }
 
-/// The cells that have these texts. A text is lent, unless it has ESC, a delimiter of its own or a
-/// look that isn't known.
+/// The cells that have these texts. A text is lent, unless it has ESC, or its cell has a delimiter
+/// or a look that isn't known.
 pub(crate) fn lent_cells<'a>(
     alloc: Global,
     cells: &[CellNumbers],
@@ -195,7 +196,7 @@ pub(crate) fn lent_cells<'a>(
     Ok(made)
 }
 
-// The cell of a text, which is lent if it can be.
+// The cell of a text. The text is lent if it can be.
 #[inline(always)]
 fn row_cell<'a>(
     alloc: Global,
@@ -211,7 +212,7 @@ fn row_cell<'a>(
     made_cell(alloc, numbers, text)
 }
 
-// The cell of a text of its own.
+// A cell with its own copy of a text.
 #[inline(never)]
 fn made_cell<'a>(
     alloc: Global,
@@ -223,8 +224,8 @@ fn made_cell<'a>(
     Ok(RowCell::Made(Box::new(alloc, cell_of(alloc, numbers, text)?)?))
 }
 
-// The cell of a text that is lent; none for a text with ESC, for a delimiter, or for a look that
-// isn't known.
+// The cell of a text that is lent. `None` if the text has ESC, or if its cell has a delimiter or a
+// look that isn't known.
 #[inline(always)]
 fn lent_cell<'a>(
     numbers: &CellNumbers,
@@ -243,7 +244,8 @@ fn lent_cell<'a>(
     text_cell(numbers, text, Some(style))
 }
 
-// The cell of a text without ESC in this style. Most texts are printable ASCII.
+// The cell of a lent text in this style; `None` if the text has ESC. Printable ASCII is tried
+// first, because most texts are.
 #[inline(always)]
 fn text_cell<'a>(
     numbers: &CellNumbers,

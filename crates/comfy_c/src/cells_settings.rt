@@ -6,13 +6,13 @@ ghost use Rattle.comfy_c.specs.Numbers.{arrangements};
 use crate::frame::FrameNumbers;
 use comfy_parts::style::ContentArrangement;
 
-/// How a table of cells is drawn. A flag is set if it isn't 0.
+/// The settings of a table of cells. A flag is set if it isn't 0.
 #[derive(Clone, Copy, Debug)]
 #[repr(C)]
 pub struct CellsSettings {
-    /// What is written: 0 for the lines, each with a line feed after it; 1 for the lines without
-    /// the white space at their ends, with line feeds between them; 2 for the greatest width of
-    /// each column's contents in terminal columns, in decimal with a line feed after it.
+    /// The output: 0 for the lines, each with a line feed after it; 1 for the lines without the
+    /// white space at their ends, with line feeds between them; 2 for the greatest width of each
+    /// column's contents in terminal columns, in decimal with a line feed after it.
     pub form: u32,
     /// The frame, as in `RowsSettings`.
     pub style: u32,
@@ -26,16 +26,16 @@ pub struct CellsSettings {
     pub has_header: u32,
     /// A flag: colours and attributes are written.
     pub enforce_styling: u32,
-    /// A flag: they apply to the texts alone, without the paddings.
+    /// A flag: colours and attributes apply to the texts alone, without the paddings.
     pub style_text_only: u32,
-    /// A flag: SGR sequences in texts stay, and count no columns.
+    /// A flag: SGR sequences in texts stay, and count no terminal columns.
     pub custom_styling: u32,
-    /// The lines of a style of the caller's own, which no other style reads.
+    /// The lines of the caller's own style. No other style reads them.
     pub frame: FrameNumbers,
 }
 
 impl CellsSettings {
-    /// The arrangement of widths; none if the number has no meaning.
+    /// The arrangement of widths; `None` if the number has no meaning.
     pub(crate) fn content_arrangement(&self) -> Option<ContentArrangement>
         ensures { result ≡ slice_get arrangements self.now.arrangement }
     {

@@ -11,7 +11,7 @@ use comfy_table::for_records::TextStyle;
 use std::alloc::{AllocError, Global};
 use std::marker::Model;
 
-// How many looks are kept.
+// The most looks that are kept.
 const MOST: usize = 8;
 
 /// The colours and attributes of some cells, as numbers and as a style.
@@ -35,7 +35,7 @@ impl Model for KnownLook {
 }
 
 impl KnownLook {
-    // A look; none if it has several attributes.
+    // A look and its style; `None` if the look has several attributes.
     fn new(look: LookNumbers) -> Option<KnownLook>
         ensures { IfSome result (λ known. known ≡ look) }
     {
@@ -47,7 +47,7 @@ impl KnownLook {
         Some(KnownLook { look, style })
     }
 
-    // Its style, if it is such a look.
+    // The style of this known look, if `look` has the same colours and attributes.
     #[inline(always)]
     fn style_for<'a>(&'a self, look: &LookNumbers) -> Option<&'a TextStyle<'a>>
         ensures { IfSome result (λ style. styling style.now ≡ look_alone look.now) }
@@ -82,7 +82,7 @@ pub(crate) fn known_looks(
     Ok(looks)
 }
 
-// A look that isn't known yet, if it can be.
+// A look to keep, if it isn't known yet and doesn't have several attributes.
 fn further_look(looks: &[KnownLook], look: LookNumbers) -> Option<KnownLook>
     ensures { IfSome result (λ known. known ≡ look) }
 {
@@ -108,7 +108,7 @@ pub(crate) fn style_among<'a>(
     None
 }
 
-// Whether two colours are the same.
+// Returns true if two colours have the same numbers.
 #[inline(always)]
 fn is_same(one: ColorNumbers, other: ColorNumbers) -> bool
     ensures { result ≡ true → color_of one ≡ color_of other }

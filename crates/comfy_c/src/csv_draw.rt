@@ -1,4 +1,4 @@
-//! Tables of CSV, as the arguments of `csvtable` ask for them.
+//! Draws tables of CSV by the arguments of `csvtable`.
 
 ghost use Rattle.std.specs.Prelude.{◌≡◌, ◌≢◌, ◌≤◌, ◌<◌, IfErr, IfOk, IsUtf8, List, ℕ, drop, length, string_bytes, take};
 ghost use Rattle.comfy_c.specs.Calls.{IsHanded, IsCsvDrawing, IsCsvRefusal, IsInputMessage, IsArgumentsMessage};
@@ -20,15 +20,15 @@ use std::alloc::Global;
 /// |---|---|---|
 /// | 0 | the input is drawn | the drawing |
 /// | 1 | the buffer is too small | nothing |
-/// | 2 | the input can't be drawn as the arguments ask | the message of `csvtable` |
+/// | 2 | the input can't be drawn with these arguments | the message of `csvtable` |
 /// | 3 | memory ran out | nothing |
-/// | 4 | the arguments ask for no drawing | the text of `csvtable`, such as help and version |
+/// | 4 | the arguments choose no drawing | the text of `csvtable`, such as help and version |
 ///
-/// `needed` is then the length in bytes of this text. After 1 it is that of the drawing, and after
-/// 3 it is unchanged.
+/// `needed` is set to the length of this text in bytes. After 1 it is the length of the drawing,
+/// and after 3 it is unchanged.
 ///
-/// With 2 and 4 a buffer that is too small for the message is unchanged, and so it is with 1 and 3.
-/// Otherwise it is unchanged after the bytes that were written.
+/// After 1 and 3 the buffer is unchanged, and so it is after 2 and 4 if it is too small for the
+/// text. Otherwise it is unchanged after the bytes that were written.
 ///
 /// ```
 /// let status = comfy_csv_draw(rt.alloc(), b"a,b\n", b"-w\x0040", &mut output, &mut needed);
@@ -81,7 +81,7 @@ pub extern "C" fn comfy_csv_draw(
     }
 }
 
-// The drawing for the arguments of a text, or why there is none.
+// The drawing for the arguments in a text, or the reason why there is none.
 fn drawing_for(alloc: Global, text: &str, input: &[u8]) -> Result<String, Refusal>
     ensures drawn { IfOk result (λ drawing.
         IsCsvDrawing text.now input.now (string_bytes drawing)) }

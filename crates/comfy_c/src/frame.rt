@@ -7,7 +7,7 @@ use crate::cells_numbers::char_of;
 use comfy_parts::style::presets::{UTF8_FULL, by_position};
 use comfy_parts::style::{ContentLineStyle, LineStyle, TableStyle};
 
-/// The characters of a horizontal line of the frame; 0 for none.
+/// The characters of a horizontal line of the frame, by their code points; 0 for none.
 #[derive(Clone, Copy, Debug)]
 #[repr(C)]
 pub struct LineNumbers {
@@ -17,7 +17,7 @@ pub struct LineNumbers {
     pub right: u32,
 }
 
-/// The characters of a line that holds contents; 0 for none.
+/// The characters of a line that holds contents, by their code points; 0 for none.
 #[derive(Clone, Copy, Debug)]
 #[repr(C)]
 pub struct ContentLineNumbers {
@@ -58,9 +58,9 @@ impl FrameNumbers {
     }
 }
 
-/// The style for a number: that of a preset, by its position as `presets::by_position` counts them,
-/// that of `UTF8_FULL` with round corners for 13, and that of `frame` for the greatest number.
-/// Returns none if the number is another one.
+/// The style for a number: a preset by its position, as `presets::by_position` counts them,
+/// `UTF8_FULL` with round corners for 13, or the style of `frame` for the greatest number. `None`
+/// for any other number.
 pub(crate) fn style_for(number: u32, frame: &FrameNumbers) -> Option<TableStyle>
     ensures { result ≡ style_for number frame.now }
 {

@@ -1,4 +1,4 @@
-//! What a caller in C is promised.
+//! Promises to a caller in C.
 
 ghost use Rattle.std.specs.Prelude.{◌≡◌, ◌≢◌, take};
 ghost use Rattle.comfy_c.specs.Promised.{ShowTable};
@@ -19,9 +19,9 @@ use std::alloc::Global;
 /// lines of the table that its numbers and texts describe, each ended by a line feed, or trimmed
 /// and with line feeds between them.
 ///
-/// They keep each promise on a table's lines. So under `Dynamic`, if no column has a constraint
-/// except `Hidden`, frame lines have at most the width, or as many characters as borders, paddings
-/// and one for each column take.
+/// They keep each promise on a table's lines. For example, under `Dynamic`, if no column has a
+/// constraint except `Hidden`, a frame line has at most as many characters as the width, or as
+/// borders, paddings and one for each column.
 pub fn drawn_cells(
     alloc: Global,
     texts: &[u8],
@@ -43,14 +43,14 @@ pub fn drawn_cells(
     )
 }
 
-/// What a caller gets with 0 is UTF-8: the table of rows that its settings and bytes of columns ask
-/// for, as `csvtable` draws records of these texts. It sends a terminal nothing but text:
-/// no character of what it shows is a control character but a line feed, and none turns the
-/// direction of text. Its only sequences begin bold and end it, unless sequences of texts are kept.
+/// The bytes that a caller gets with 0 are UTF-8: the table of rows that its settings and columns
+/// describe, as `csvtable` draws records of these texts. They send a terminal nothing but text: no
+/// character that they show is a control character except a line feed, and none turns the direction
+/// of text. Their only sequences begin bold and end it, unless sequences of texts are kept.
 ///
-/// The promises on what it shows are for a preset, or for a frame of the caller's own without
-/// control characters and characters that turn the direction of text. Those on columns and widths
-/// are for a frame whose characters each take one terminal column, as those of all presets do.
+/// The promises on what is shown are for a preset, or for a frame of the caller's own without
+/// control characters and characters that turn the direction of text. The promises on columns and
+/// widths are for a frame whose characters each take one terminal column, as in all presets.
 ///
 /// For a table that isn't for Markdown, and in which no sequences are kept:
 ///

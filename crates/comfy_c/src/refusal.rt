@@ -1,4 +1,4 @@
-//! Why a caller's texts have no drawing.
+//! Reasons why there is no drawing of a caller's texts.
 
 ghost use Rattle.std.specs.Prelude.{◌≡◌};
 ghost use Rattle.comfy_c.specs.declared.refusal.DrawRefusal.TheVariants as refusal;
@@ -6,13 +6,13 @@ ghost use Rattle.comfy_c.specs.declared.refusal.DrawRefusal.TheVariants as refus
 use comfy_parts::TableError;
 use std::alloc::{AllocError, AllocFailed};
 
-/// Why texts have no drawing.
+/// A reason why there is no drawing.
 pub(crate) enum DrawRefusal {
-    /// The lengths aren't those of the texts, or the counts not those of the lengths.
+    /// Lengths, counts, looks or heights don't add up.
     Lengths,
     /// A text isn't UTF-8.
     NotUtf8,
-    /// Settings ask for nothing that can be drawn.
+    /// Settings or columns are refused: a number has no meaning, or nothing can be drawn with them.
     Settings,
     /// Memory ran out.
     OutOfMemory,

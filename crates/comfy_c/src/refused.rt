@@ -1,4 +1,4 @@
-//! Which setting is refused.
+//! Finds the setting that is refused.
 
 ghost use Rattle.std.specs.Prelude.{◌≡◌, ◌≢◌, List, None};
 ghost use Rattle.comfy_parts.specs.Text.{Text};
@@ -13,20 +13,21 @@ use crate::frame::style_for;
 use crate::rows_columns::{RowsColumn, have_sides};
 use crate::rows_settings::{RowsSettings, expansion_at, separators_at};
 
-/// Which setting of a table of rows `comfy_rows_draw` refuses, whatever the texts are.
+/// Returns the setting of a table of rows that `comfy_rows_draw` refuses, whatever the texts are.
 ///
 /// | Returned | Meaning |
 /// |---|---|
-/// | 0 | none: a column is refused that no row has, or no column is left |
+/// | 0 | none; `comfy_rows_draw` may still refuse a column that no row has, or no columns |
 /// | 1 | `style` has no meaning |
 /// | 2 | `row_lines` has no meaning |
 /// | 3 | `expansion` has no meaning |
 /// | 4 | a column's `side` has no meaning |
 /// | 5 | there are looks, heights or columns that only a table of rows has |
 ///
-/// 5 is returned if the table is one for Markdown, or rows are or may be expanded, and there are
-/// looks, heights or columns with more than a side at the left or right. The first of these is
-/// returned. Texts, lengths and counts aren't looked at.
+/// 5 is returned if the table is for Markdown, or if rows are or may be expanded, and there are
+/// looks, heights, or columns that are centred or have paddings or widths of their own. If several
+/// settings are refused, the first of them in this list is returned. Texts, lengths and counts
+/// aren't read.
 #[unsafe(no_mangle)]
 pub extern "C" fn comfy_rows_refused(
     looks: &[LookNumbers],
@@ -56,7 +57,7 @@ pub extern "C" fn comfy_rows_refused(
     0
 }
 
-/// Which setting of a table of cells `comfy_cells_draw` refuses.
+/// Returns the setting of a table of cells that `comfy_cells_draw` refuses.
 ///
 /// | Returned | Meaning |
 /// |---|---|
@@ -65,7 +66,8 @@ pub extern "C" fn comfy_rows_refused(
 /// | 6 | `form` has no meaning |
 /// | 7 | `arrangement` has no meaning |
 ///
-/// Of several settings that have no meaning it is `form`, else `style`.
+/// If several settings have no meaning, the number for `form` is returned, or else the number for
+/// `style`.
 #[unsafe(no_mangle)]
 pub extern "C" fn comfy_cells_refused(settings: &CellsSettings) -> u32
     ensures which { result ≡ refused_of_cells settings.now }

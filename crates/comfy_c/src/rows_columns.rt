@@ -7,7 +7,7 @@ use csv_records::Rows;
 use csv_tables::{ColumnSettings, Columns, Selection};
 use std::alloc::{AllocError, Global};
 
-// What a column's side says.
+// The values of a column's side.
 
 const BY_CONTENTS: u32 = 0;
 
@@ -25,10 +25,10 @@ const IN_THE_MIDDLE: u32 = 4;
 pub struct RowsColumn {
     /// The terminal columns left free at the left of texts.
     pub left_padding: u16,
-    /// Those at the right.
+    /// The terminal columns left free at the right of texts.
     pub right_padding: u16,
-    /// The alignment: 0 for numbers at the right and other texts at the left, 1 for all at the
-    /// left, 2 for all at the right, and 4 for all in the middle. 3 leaves the column out.
+    /// The alignment: 0 for right in a column of numbers and left in any other, 1 for left, 2 for
+    /// right, and 4 for centred. 3 leaves the column out.
     pub side: u32,
     /// The least width of its texts; 0 sets none.
     pub least: u16,
@@ -36,14 +36,14 @@ pub struct RowsColumn {
     pub greatest: u16,
 }
 
-/// Whether each side has a meaning.
+/// Returns true if each side has a meaning.
 pub(crate) fn have_sides(columns: &[RowsColumn]) -> bool
     ensures { result ≡ have_sides columns.now }
 {
     columns.iter().all(|column| column.side <= IN_THE_MIDDLE)
 }
 
-/// Whether no column has a setting beside a side at the left or right.
+/// Returns true if no column is centred or has paddings or widths of its own.
 pub(crate) fn are_unset(columns: &[RowsColumn]) -> bool
     ensures { result ≡ are_unset columns.now }
 {
@@ -60,7 +60,8 @@ fn is_unset(column: &RowsColumn) -> bool
         && column.side != IN_THE_MIDDLE
 }
 
-/// The settings of columns; none if no column has one beside a side at the left or right.
+/// The settings of columns. The list is empty if no column is centred or has paddings or widths of
+/// its own.
 pub(crate) fn settings_for(
     alloc: Global,
     columns: &[RowsColumn],
@@ -96,8 +97,8 @@ fn width_unless_zero(width: u16) -> Option<u16>
     (width != 0).then_some(width)
 }
 
-/// The columns to draw of these rows; none if a column that isn't there has settings, or if no
-/// column is left.
+/// The columns of these rows that are drawn. `None` if settings are given for a column that no row
+/// has, or if no column is left. Without rows it is never `None`.
 pub(crate) fn columns_of(
     alloc: Global,
     asked: &[RowsColumn],
@@ -121,7 +122,7 @@ pub(crate) fn columns_of(
     Ok(Some(columns))
 }
 
-// Whether no column past a count has settings.
+// Returns true if no column after the first `count` has settings.
 fn are_there(columns: &[RowsColumn], count: usize) -> bool
     ensures { result ≡ are_there columns.now count }
 {
@@ -131,7 +132,7 @@ fn are_there(columns: &[RowsColumn], count: usize) -> bool
         .all(|column| column.side == BY_CONTENTS && is_unset(column))
 }
 
-// The first columns, up to a count, with their sides.
+// The first `count` columns, with their sides.
 fn columns_by(alloc: Global, columns: &[RowsColumn], count: usize) -> Result<Columns, AllocError>
     ensures { IfOk result (λ made. made ≡ columns_by columns.now count) }
 {
@@ -141,7 +142,7 @@ fn columns_by(alloc: Global, columns: &[RowsColumn], count: usize) -> Result<Col
     Ok(Columns::new(drawn, right, left))
 }
 
-// Those of the first columns that aren't hidden.
+// The positions below `count` of columns that aren't hidden.
 fn drawn_by(alloc: Global, columns: &[RowsColumn], count: usize) -> Result<Vec<usize>, AllocError>
     ensures { IfOk result (λ drawn. drawn.items ≡ (columns_by columns.now count).drawn) }
 {
@@ -150,7 +151,7 @@ fn drawn_by(alloc: Global, columns: &[RowsColumn], count: usize) -> Result<Vec<u
         .collect(alloc)
 }
 
-// Those of the first columns that have this side.
+// The positions below `count` of columns that have this side.
 fn columns_with(
     alloc: Global,
     columns: &[RowsColumn],
@@ -165,7 +166,7 @@ fn columns_with(
         .collect(alloc)
 }
 
-// The side of a column; that of contents past the last one.
+// The side of the column at a position; `BY_CONTENTS` after the last one.
 fn side_at(columns: &[RowsColumn], position: usize) -> u32
     ensures { result ≡ side_at columns.now position }
 {

@@ -1,4 +1,4 @@
-//! Tables of rows, as values.
+//! Draws tables of rows.
 
 ghost use Rattle.std.specs.Prelude.{◌≡◌, ◌≢◌, ◌≤◌, ◌<◌, IfErr, IfOk, List, ℕ, drop, length, string_bytes, take};
 ghost use Rattle.comfy_c.specs.RowCalls.{AllAddUp, HasNoText, IsRowsDrawing, IsRowsRefusal, IsSettingRefused};
@@ -15,13 +15,14 @@ use csv_tables::{Layout, output_of_styled_records};
 use std::alloc::Global;
 
 /// Draws the table of rows into the caller's buffer, as `csvtable` draws records of these texts.
-/// Lines that count them say rows: `row 2 of 3`, and `2 of 3 rows` if a limit leaves some out.
+/// Lines that count records call them rows: `row 2 of 3`, and `2 of 3 rows` if a limit leaves some
+/// out.
 ///
 /// `texts` has the texts of all cells in their order, without anything between them. `lengths` has
 /// the length of each in bytes, and `counts` the number of cells of each row. The first row may be
-/// the header. `looks` has an item for each text, and `heights` the greatest height of each row
-/// below the header, in which 0 and the greatest number set none; both may be empty. `columns` has
-/// an item for each column, or for the first ones.
+/// the header. `looks` has an item for each text, and `heights` the greatest height of each row;
+/// both may be empty. A height of 0, or of the greatest number, sets no limit. The header's height
+/// has no effect. `columns` has an item for each column, or for the first ones.
 ///
 /// | Returned | Meaning | `needed` |
 /// |---|---|---|
@@ -29,14 +30,14 @@ use std::alloc::Global;
 /// | 1 | the buffer is too small | the length of the drawing in bytes |
 /// | 2 | lengths, counts, looks and heights add up, but a text isn't UTF-8 | unchanged |
 /// | 3 | memory ran out | unchanged |
-/// | 4 | settings or columns ask for nothing that can be drawn | unchanged |
+/// | 4 | settings or columns are refused | unchanged |
 /// | 5 | lengths, counts, looks or heights don't add up | unchanged |
 ///
-/// Settings and columns are looked at first: 4 is returned if a number has no meaning. It is also
-/// returned if a table for Markdown is asked for, or if rows are or may be expanded, and there are
-/// looks, heights or columns with more than a side at the left or right. Then lengths, counts,
-/// looks and heights are looked at, and after them the texts. Last, 4 is returned if a column that
-/// no row has has settings, or if no column is left.
+/// Settings and columns are checked first: 4 is returned if a number has no meaning. It is also
+/// returned if the table is for Markdown, or if rows are or may be expanded, and there are looks,
+/// heights, or columns that are centred or have paddings or widths of their own. Then lengths,
+/// counts, looks and heights are checked, and after them the texts. Last, 4 is returned if settings
+/// are given for a column that no row has, or if no column is left.
 ///
 /// With 1 to 5 the buffer is unchanged. With 0 it is unchanged after the drawing.
 #[unsafe(no_mangle)]
@@ -78,7 +79,7 @@ pub extern "C" fn comfy_rows_draw(
     hand_over(made, output, needed)
 }
 
-// The drawing of rows, or the reason for which there is none.
+// The drawing of rows, or the reason why there is none.
 fn rows_drawing(
     alloc: Global,
     texts: &[u8],

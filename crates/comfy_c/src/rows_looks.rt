@@ -10,7 +10,8 @@ use crate::rows_columns::{RowsColumn, settings_for};
 use csv_tables::{CellSettings, RowSettings, Settings};
 use std::alloc::{AllocError, Global};
 
-/// Whether looks are those of all texts, and heights those of all rows. Both may be missing.
+/// Returns true if there is one look for each text or none at all, and one height for each row or
+/// none at all.
 pub(crate) fn are_each(
     looks: &[LookNumbers],
     lengths: &[usize],
@@ -46,8 +47,8 @@ pub(crate) fn table_settings(
     })
 }
 
-// The settings of the header, which may be missing, and of the rows below it; none without looks
-// and heights.
+// The settings of the header and of the rows below it. If there is no header, the first item is
+// unset. The list is empty if there are no looks and no heights.
 fn rows_settings(
     alloc: Global,
     has_header: bool,
@@ -98,7 +99,7 @@ fn push_rows(
     Ok(())
 }
 
-// The first looks, as many as there are up to a count, and the others.
+// The first `count` looks, or all if there are fewer, and the others.
 fn parted(looks: &[LookNumbers], count: usize) -> (&[LookNumbers], &[LookNumbers])
     ensures own { result.0.now ≡ take count looks.now }
     ensures others { result.1.now ≡ drop count looks.now }
@@ -106,7 +107,7 @@ fn parted(looks: &[LookNumbers], count: usize) -> (&[LookNumbers], &[LookNumbers
     looks.split_at(count.min(looks.len()))
 }
 
-// The height of a row; 0 past the last one.
+// The height of the row at a place; 0 after the last height.
 fn height_at(heights: &[usize], at: usize) -> usize
     ensures { result ≡ slice_index heights.now at }
 {

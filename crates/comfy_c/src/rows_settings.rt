@@ -9,7 +9,7 @@ use crate::frame::{FrameNumbers, style_for};
 use crate::rows_columns::{RowsColumn, are_unset, have_sides};
 use csv_tables::{Expansion, Look, Noun, RowSeparators, Selection};
 
-/// How a table of rows is drawn. A flag is set if it isn't 0.
+/// The settings of a table of rows. A flag is set if it isn't 0.
 #[derive(Clone, Copy, Debug)]
 #[repr(C)]
 pub struct RowsSettings {
@@ -24,11 +24,11 @@ pub struct RowsSettings {
     pub width: u32,
     /// A flag: the width is filled.
     pub fills_width: u32,
-    /// Whether the style's lines between rows are drawn: 0 for always, 1 for if a drawn row has
-    /// more than one line, 2 for never.
+    /// The rule for the style's lines between rows: 0 draws them always, 1 only if a drawn row has
+    /// more than one line, 2 never.
     pub row_lines: u32,
-    /// Whether each row is drawn as a table of its own: 0 for never, 1 for if the width has no room
-    /// for the table of all rows, 2 for always.
+    /// The rule for drawing each row as a table of its own: 0 for never, 1 for only if the width
+    /// has no room for the table of all rows, 2 for always.
     pub expansion: u32,
     /// A flag: the first row is the header.
     pub has_header: u32,
@@ -38,16 +38,16 @@ pub struct RowsSettings {
     pub is_numbered: u32,
     /// A flag: decimal points of a column of numbers are aligned.
     pub aligns_decimals: u32,
-    /// A flag: SGR sequences in texts stay, and count no columns.
+    /// A flag: SGR sequences in texts stay, and count no terminal columns.
     pub has_sequences: u32,
-    /// A flag: the table is one for Markdown, whatever else is set here.
+    /// A flag: the table is for Markdown, whatever else is set here.
     pub is_markdown: u32,
-    /// The lines of a style of the caller's own, which no other style reads.
+    /// The lines of the caller's own style. No other style reads them.
     pub frame: FrameNumbers,
 }
 
 impl RowsSettings {
-    /// Which of the rows are drawn.
+    /// The selection of the rows that are drawn.
     pub(crate) fn selection(&self) -> Selection
         ensures { result ≡ selection_for self.now }
     {
@@ -59,8 +59,9 @@ impl RowsSettings {
         }
     }
 
-    /// Whether each column has a side that has a meaning, and more than sides at the left and right
-    /// is set only for a table of rows.
+    /// Returns true if the side of each column has a meaning, and if such a table can have these
+    /// settings. Only a table of rows can have looks, heights, and columns that are centred or have
+    /// paddings or widths of their own.
     pub(crate) fn can_have(
         &self,
         looks: &[LookNumbers],
@@ -72,14 +73,14 @@ impl RowsSettings {
         have_sides(columns) && (has_sides_alone(looks, heights, columns) || self.is_table_of_rows())
     }
 
-    // Whether rows are drawn as one table that isn't for Markdown, whatever the width.
+    // Returns true if rows are drawn as one table that isn't for Markdown, whatever the width.
     fn is_table_of_rows(&self) -> bool
         ensures { result ≡ is_table_of_rows self.now }
     {
         self.expansion == 0 && self.is_markdown == 0
     }
 
-    /// The look of the table; none if a number has no meaning.
+    /// The look of the table; `None` if a number has no meaning.
     pub(crate) fn look(&self) -> Option<Look>
         ensures { result ≡ look_for self.now }
     {
@@ -98,14 +99,15 @@ impl RowsSettings {
     }
 }
 
-// Whether nothing is set but sides of columns at the left and right.
+// Returns true if there are no looks and no heights, and no column is centred or has paddings or
+// widths of its own.
 fn has_sides_alone(looks: &[LookNumbers], heights: &[usize], columns: &[RowsColumn]) -> bool
     ensures { result ≡ has_sides_alone looks.now heights.now columns.now }
 {
     looks.is_empty() && heights.is_empty() && are_unset(columns)
 }
 
-/// When lines between rows are drawn; none if the number has no meaning.
+/// The rule for lines between rows; `None` if the number has no meaning.
 pub(crate) fn separators_at(number: u32) -> Option<RowSeparators>
     ensures { result ≡ slice_get separators number }
 {
@@ -117,7 +119,7 @@ pub(crate) fn separators_at(number: u32) -> Option<RowSeparators>
     }
 }
 
-/// When rows are expanded; none if the number has no meaning.
+/// The rule for expanding rows; `None` if the number has no meaning.
 pub(crate) fn expansion_at(number: u32) -> Option<Expansion>
     ensures { result ≡ slice_get expansions number }
 {
@@ -129,7 +131,7 @@ pub(crate) fn expansion_at(number: u32) -> Option<Expansion>
     }
 }
 
-/// A limit; none for the greatest number.
+/// A limit; `None` for the greatest number.
 pub(crate) fn limit_of(number: usize) -> Option<usize>
     ensures { result ≡ limit_of number }
 {

@@ -9,7 +9,8 @@ use csv_records::Records;
 use simdutf8::basic::from_utf8;
 use std::alloc::Global;
 
-/// The records of texts that have these lengths, with these counts of texts.
+/// The records of texts with these lengths. `counts` has the number of fields of each record.
+/// Refuses what `texts_of` refuses.
 pub(crate) fn records_of(
     alloc: Global,
     texts: &[u8],
@@ -29,7 +30,7 @@ pub(crate) fn records_of(
 }
 
 /// The texts of these lengths, in rows of these counts of texts. Refuses lengths or counts that
-/// don't add up before it looks at the bytes, and then bytes that aren't UTF-8.
+/// don't add up, and after that texts that aren't UTF-8. Memory may run out too.
 pub(crate) fn texts_of<'a>(
     alloc: Global,
     texts: &'a [u8],
@@ -61,14 +62,14 @@ pub(crate) fn texts_of<'a>(
     Ok(found)
 }
 
-// Whether the lengths are those of all texts, and the counts those of all rows.
+// Returns true if the lengths add up to all bytes, and the counts to all texts.
 fn add_up(texts: &[u8], lengths: &[usize], counts: &[usize]) -> bool
     ensures { IsTrue result ↔ AddUp texts.now lengths.now counts.now }
 {
     add_up_to(lengths, texts.len()) && add_up_to(counts, lengths.len())
 }
 
-// Whether the sum of the numbers is `all`.
+// Returns true if the sum of the numbers is `all`.
 fn add_up_to(numbers: &[usize], all: usize) -> bool
     ensures { IsTrue result ↔ (total numbers.now ≡ all) }
 {

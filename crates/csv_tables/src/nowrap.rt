@@ -33,7 +33,8 @@ use std::alloc::{AllocError, Global};
 /// The most terminal columns that a column needs for a word of its name.
 pub(crate) const LONGEST_WORD: u16 = 20;
 
-/// The most terminal columns that a column needs of its content, whatever its name.
+/// The terminal columns of its content that each column needs, whatever its name. A narrower
+/// content is needed whole.
 pub(crate) const LEAST_LEVEL: u16 = 8;
 
 // The most characters of a time stamp. All of them are ASCII.
@@ -542,7 +543,7 @@ fn nowrap_width(line: &str, room: u16) -> u16
 }
 
 // Returns true if a field of this width might be broken beside names of this width. `room` is the
-// width that both have.
+// width that both share.
 fn may_break(room: u16, names: u16, field: u16) -> bool
     ensures { result ≡ may_break room names field }
 {
