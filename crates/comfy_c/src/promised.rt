@@ -67,8 +67,8 @@ pub fn drawn_cells(
 ///   columns takes, if each character takes at most one, or two under such a width. If the width is
 ///   filled and has room for the frame, each line shows exactly as many.
 ///
-/// These hold for columns without settings but sides at the left and right, and without looks and
-/// heights. With any looks, heights and columns, a table that is never expanded and not for
+/// These hold if columns have no settings except a side at the left or right, or are hidden, and
+/// without looks and heights. With any looks, heights and columns, a table that is never expanded and not for
 /// Markdown keeps each promise that is made of a table's lines, as `drawn_cells` says. The lines
 /// are those before the line that counts rows. The table is the one that `csvtable` draws of such
 /// rows, with the settings of columns, rows and cells.
