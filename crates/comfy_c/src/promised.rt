@@ -68,10 +68,10 @@ pub fn drawn_cells(
 ///   filled and has room for the frame, each line shows exactly as many.
 ///
 /// These hold if columns have no settings except a side at the left or right, or are hidden, and
-/// without looks and heights. With any looks, heights and columns, a table that is never expanded and not for
-/// Markdown keeps each promise that is made of a table's lines, as `drawn_cells` says. The lines
-/// are those before the line that counts rows. The table is the one that `csvtable` draws of such
-/// rows, with the settings of columns, rows and cells.
+/// without looks and heights. With any looks, heights and columns, a table that is never expanded
+/// and not for Markdown keeps each promise that is made of a table's lines, as `drawn_cells` says.
+/// The lines are those before the line that counts rows. The table is the one that `csvtable` draws
+/// of such rows, with the settings of columns, rows and cells.
 pub fn drawn_rows(
     alloc: Global,
     texts: &[u8],
