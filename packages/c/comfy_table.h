@@ -10,24 +10,25 @@
  * programs are in share/doc/comfy_table/examples.
  *
  * It is proved of each function:
- *  - It returns a result only for the reason that its comment gives, and no other result. Only the reason for
- *    COMFY_OUT_OF_MEMORY isn't proved.
+ *  - It returns only results that its comment lists, each only for the reason that is given there. The one exception is
+ *    COMFY_OUT_OF_MEMORY, whose reason isn't proved.
  *  - The drawing, the message about an input, *needed and the bytes that stay unchanged are as its comment says.
- *  - Texts are split by their lengths, and arguments at zero bytes. Both mean what the comment says.
+ *  - It splits texts by their lengths, and arguments at zero bytes. It uses each text and each argument as its comment says.
  *  - The lines that comfy_cells_draw writes keep all promises on a table's lines in share/doc/comfy_table/PROVED.md. With
  *    COMFY_FORM_TRIMMED this holds before the white space at the ends of lines is removed, so they aren't equally wide.
  *  - The table that comfy_rows_draw writes keeps all promises on rows there: no text is lost, edges are straight, and a width
- *    holds, under the conditions of that page. This is proved without looks and heights, and for columns whose only settings are
- *    COMFY_COLUMN_LEFT, COMFY_COLUMN_RIGHT and COMFY_COLUMN_HIDDEN. With looks, heights or other settings of columns, the lines
- *    before the count of rows keep all promises on a table's lines, as those of comfy_cells_draw do.
+ *    holds, under the conditions of that page. This is proved if looks and heights are empty, and columns have no other settings
+ *    than COMFY_COLUMN_LEFT, COMFY_COLUMN_RIGHT and COMFY_COLUMN_HIDDEN. With looks, heights or other settings of columns, the
+ *    lines before the count of rows keep all promises on a table's lines, as those of comfy_cells_draw do.
  *  - A call returns. It reads and writes only its own memory and that which its arguments give it.
  *
  * Not proved, but tested:
  *  - COMFY_OUT_OF_MEMORY is returned only after malloc or realloc returned null.
  *  - No memory is kept after a call, and several threads may call at once.
  *  - A null pointer means no bytes.
- *  - Settings are checked before lengths, counts, looks and heights. It is proved that these four are checked before texts.
- *  - The messages of csvtable about arguments. It is proved that they have no control character except line feeds.
+ *  - Settings are checked before lengths, counts, looks and heights. That texts are checked last is proved.
+ *  - The words of csvtable's messages about arguments. It is proved that these messages have no control character except line
+ *    feeds.
  *  - The functions of this header that allocate memory.
  *
  * The caller has to ensure, because no function checks it:

@@ -109,7 +109,7 @@ class Look(NamedTuple):
 
 
 class ColumnNumbers(NamedTuple):
-    """A column of rows in comfy_table.h. Widths are in terminal columns, without paddings; 0 sets none."""
+    """The fields of `struct comfy_rows_column` in comfy_table.h. Widths are in terminal columns, without paddings; 0 sets none."""
 
     left_padding: int
     right_padding: int
@@ -133,10 +133,11 @@ _ROWS_DRAW = _declared("comfy_rows_draw", [*_BYTES, *_SIZES * 5, ctypes.POINTER(
 
 
 def draw_csv(data: str | bytes, arguments: Sequence[str] = ()) -> str:
-    """The drawing of CSV, by the arguments of the program csvtable, as ["-r", "price", "-w", "60"].
+    """The drawing of CSV, by arguments of the program csvtable, such as ["-r", "price", "-w", "60"].
 
-    A text is passed as UTF-8; bytes may be in another encoding, which csvtable finds or "-e" names. An argument that names a
-    file opens none: messages have the name. The drawing ends with a line feed, and there is no width but that of "-w".
+    A text is passed as UTF-8; bytes may be in another encoding, which csvtable finds or "-e" names. No file is opened: a file
+    name among the arguments names the input in messages, and if it ends in .tsv or .tab, TABs may separate fields. Only "-w" sets
+    a width. The drawing ends with a line feed.
 
     ValueError has the message that csvtable prints, and MemoryError says that memory ran out.
     """
