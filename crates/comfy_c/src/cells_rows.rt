@@ -18,7 +18,7 @@ use comfy_parts::{Cell, Cells, IntoRow, Row, TableError};
 use comfy_table::for_records::{LinesCell, RowCell, TextCell, TextStyle};
 use std::alloc::{AllocError, Global};
 
-/// A cell.
+/// The length and the settings of a cell. Its text is in the block of all texts.
 #[derive(Clone, Copy, Debug)]
 #[repr(C)]
 pub struct CellNumbers {

@@ -15,9 +15,9 @@ use crate::rows_settings::RowsSettings;
 use promises::laws::drawings_keep_the_promises;
 use std::alloc::Global;
 
-/// The bytes that a caller gets with 0, unless it wants the widths of contents, are UTF-8: the
-/// lines of the table that its numbers and texts describe, each ended by a line feed, or trimmed
-/// and with line feeds between them.
+/// If 0 is returned and `form` isn't 2, the bytes in `output` are UTF-8. They are the lines of the
+/// table that the caller's numbers and texts describe: each ended by a line feed if `form` is 0,
+/// and trimmed, with line feeds between them, if it is 1.
 ///
 /// They keep each promise on a table's lines. For example, under `Dynamic`, if no column has a
 /// constraint except `Hidden`, a frame line has at most as many characters as the width, or as

@@ -62,7 +62,7 @@ impl RecordDrawing {
         }
     }
 
-    /// The drawing of records, none of which is drawn yet, with this text before them.
+    /// A drawing that begins with the text `beginning`, and has all records of `left` after it.
     pub(crate) fn of_records(beginning: String, left: Remaining) -> Result<RecordDrawing>
         requires { left.place ≡ 0 }
         ensures { IfOk result (λ drawn. drawn

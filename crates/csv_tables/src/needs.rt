@@ -156,7 +156,7 @@ fn lent_word_width(cell: &LinesCell<'_>) -> usize
     widest
 }
 
-/// The width of the widest word of a made cell, in terminal columns.
+/// The width of the widest word of a `Cell`, in terminal columns.
 pub(crate) fn lines_word_width(table: &Table, cell: &Cell) -> usize
     ensures { result ≡ cell_word_width (measured_cell table.now cell.now) }
 {

@@ -43,10 +43,10 @@ const LONGEST_STAMP: usize = 35;
 // The most terminal columns that the names of expanded records need.
 const NEEDED_NAMES: u16 = 4;
 
-/// Gives columns their paddings and their limits. If a width is kept that has room, columns keep
-/// what they need, and columns of numbers and dates keep their whole fields. Returns true if there
-/// is room. There is none if decimal points are lined up in texts that are wrapped. Otherwise there
-/// always is if no width is kept.
+/// Gives columns their paddings, their limits, and least widths with which no number or date is
+/// broken over lines. Returns true if the table can be drawn so. It can't if the set width has no
+/// room for the least widths, which are then left out. Nor can it if decimal points are aligned in
+/// a column whose greatest width would wrap its texts.
 pub(crate) fn keep_nowrap(contents: &mut LazyTable) -> Result<bool>
     requires { contents.old.rows.is_expanded ≡ false }
     ensures contents { OnOk result (contents.new ≡ record contents.old {

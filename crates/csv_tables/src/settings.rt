@@ -50,7 +50,7 @@ pub struct CellSettings {
     pub foreground: Option<Color>,
     /// The background colour of its text.
     pub background: Option<Color>,
-    /// Its attributes. In a bold header they come after bold.
+    /// The attributes of its text. In a bold header they are written after bold.
     pub attributes: Vec<Attribute>,
 }
 
@@ -79,7 +79,7 @@ impl Model for CellSettings {
 }
 
 impl CellSettings {
-    /// The alignment of a cell that would have `alignment` without these settings.
+    /// The alignment of these settings if they set one, and otherwise `alignment`.
     pub(crate) fn side(&self, alignment: Option<CellAlignment>) -> Option<CellAlignment>
         ensures { result ≡ option_or self.now.alignment alignment }
     {
@@ -181,8 +181,8 @@ impl RowSettings {
 #[derive(Debug)]
 pub struct Settings {
     /// The settings of its columns. The item at a position is for the fields at this position of
-    /// the records. Columns past the last item have no settings, and neither has the column of
-    /// numbers.
+    /// the records. Columns past the last item have no settings, and neither has the column that
+    /// shows the numbers of records.
     pub columns: Vec<ColumnSettings>,
     /// The settings of its rows. The first item is for the header, and isn't used if there is none.
     /// The items after it are for the records in their order. Records past the last item have no

@@ -19,7 +19,8 @@ use std::alloc::{AllocError, Global};
 /// A summary of the fields of one column.
 #[derive(Clone, Copy)]
 pub(crate) struct ColumnSummary {
-    /// Their common kind: `Other` if a field is of this kind, else `Number` if one is.
+    /// Their common kind: `Other` if a field is of this kind, else `Number` if a field is a
+    /// number, else `Neutral`.
     pub(crate) kind: FieldKind,
     /// Their decimal marks, if each field is narrow, and is a number or neutral.
     pub(crate) marks: Option<ColumnMarks>,
