@@ -7,7 +7,7 @@ use Rattle.comfy_parts.specs.Text.{Text, measure}
 use Rattle.csv_tables.specs.declared.options.Expansion.{Expansion}
 use Rattle.csv_tables.specs.declared.options.Expansion.TheVariants.{Always, Auto, Never}
 use Rattle.csv_command.specs.declared.arguments.Options.{Options}
-use Rattle.csv_tables.specs.Columns.{count_of}
+use Rattle.csv_tables.specs.Columns.{filled_count}
 use Rattle.promises.specs.Shown.Shows.{byte, nothing}
 use Rattle.promises.specs.Tables.{HasCharactersWithin}
 use Rattle.csv_promises.specs.Fields.{positions_by, positions_in}
@@ -91,7 +91,7 @@ room_by options expansion is_numbered records =
     frame_room (framed_columns (record options { selection = record options.selection { has_header = true; limit = None; is_numbered = is_numbered }; look = record bold { expansion = expansion } }) records)
 
 -- all three are drawn
-all_are_drawn : (options : Options) → IsAll options → (rows : List (List Text)) → count_of (codes "a" ∷ codes "b" ∷ codes "c" ∷ []) rows ≡ 3 → (more : ℕ) → frame_room (length (positions_in options (codes "a" ∷ codes "b" ∷ codes "c" ∷ []) rows) + more) ≡ frame_room (3 + more)
+all_are_drawn : (options : Options) → IsAll options → (rows : List (List Text)) → filled_count (codes "a" ∷ codes "b" ∷ codes "c" ∷ []) rows ≡ 3 → (more : ℕ) → frame_room (length (positions_in options (codes "a" ∷ codes "b" ∷ codes "c" ∷ []) rows) + more) ≡ frame_room (3 + more)
 all_are_drawn options (chosen, dropped) rows three more = rw chosen (rw dropped (rw three refl))
 
 -- `|_a_|_b_|_c_|` takes thirteen terminal columns, and the numbers take four more

@@ -108,7 +108,7 @@ figure_parts : map (λ part. part (codes "-$ 1,234.5 kB")) (front_of ∷ figure_
 figure_parts = refl
 
 -- groups of another length, and groups with two different marks
-ungrouped_digits : list_any is_number (texts ("1 2" ∷ "1,2,3" ∷ "1_00" ∷ "12,34,567" ∷ "1234,567,890" ∷ "1,234.567,890" ∷ "1.234,567.8" ∷ [])) ≡ false
+ungrouped_digits : list_any is_number (texts ("1 2" ∷ "1,2,3" ∷ "1_00" ∷ "12,34,5678" ∷ "1234,567,890" ∷ "1,234.567,890" ∷ "1.234,567.8" ∷ [])) ≡ false
 unfolding chars lib.Utf8.encode ucd_category is_number has_indian_groups
 ungrouped_digits = refl
 

@@ -1,5 +1,5 @@
 -- Texts whose fields are separated by spaces, as other programs write them.
-use Rattle.std.proofs.Common.{◌≡◌, [], codes, refl}
+use Rattle.std.proofs.Common.{◌≡◌, [], codes, false, refl, true}
 use Rattle.std.specs.Str.{chars}
 use Rattle.csv_records.specs.Spaces.{tabbed_text}
 
