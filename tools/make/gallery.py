@@ -1,10 +1,11 @@
 #!/usr/bin/env python3
-"""Writes docs/GALLERY.md: commands and programs, each with what it draws.
+"""Writes docs/GALLERY.md: commands and programs, each with its drawing.
 
     tools/make/gallery.py
 
-Drawings come from stored outputs, from cases of test_csv_cases, and from the first comments of the packages' examples, which
-tools/try/package_test.sh compares with what they print. tools/check/check_proved.py names the page if it differs.
+The drawings are stored outputs, cases of test_csv_cases, and the first comments of the packages' examples.
+tools/try/package_test.sh compares these comments with the output of the examples. tools/check/check_proved.py names the page if it
+differs from the output of this program.
 """
 import re
 import shlex

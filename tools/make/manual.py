@@ -1,6 +1,6 @@
 #!/usr/bin/env python3
-"""Makes csvtable's man page, its completions for bash and zsh, and the list of options in docs/CSVTABLE.md, from its options.
-The man page also has the sections of docs/CSVTABLE.md, and one of SECURITY.md.
+"""Makes csvtable's man page, its completions for bash and zsh, and the list of options in docs/CSVTABLE.md. All of them are made
+from the options in the program's source. The man page also has the sections of docs/CSVTABLE.md, and a section of SECURITY.md.
 
     tools/make/manual.py
 
@@ -31,7 +31,7 @@ class Option:
 
 SOURCE = text_of("crates/csv_command/src/options.rt")
 VERSION = re.search(r'\.version\("(.+?)"\)', SOURCE)[1]
-DATE = "2026-11-27"  # of this version
+DATE = "2026-11-27"  # the date of this version
 ABOUT = re.search(r'\.about\("(.+?)"\)', SOURCE)[1]
 
 
@@ -56,7 +56,7 @@ ESCAPES = {"\\": "\\e", "-": "\\-", "'": "\\(aq", '"': "\\(dq", "`": "\\(ga", "^
 
 
 def literal(text):
-    """A text for man as it is, in ASCII, with the hyphens of terminals."""
+    """A text in the form that man shows unchanged. It is in ASCII, and its hyphens are those that users type."""
     return "".join(ESCAPES.get(it, it if it.isascii() else f"\\[u{ord(it):04X}]") for it in text)
 
 
@@ -65,7 +65,7 @@ def bold(text):
 
 
 def escaped(text):
-    """A text of a page for man: code and what is bold in bold, in lines of the source of at most 78 characters."""
+    """A text of a page in the form for man. Code and bold text become bold. The lines of the source have at most 78 characters."""
     made = ""
     for part in re.split(r"(`` ` ``|`[^`]*`)", text):
         if part.startswith("`"):
@@ -76,7 +76,7 @@ def escaped(text):
 
 
 def page_for_man(path):
-    """A page without links. What is installed beside the man page has its place there."""
+    """A page without links. In place of a link to a file that is installed with the man page, there is the path of this file."""
 
     def link_to(target, _, text):
         return text if target == path else in_words(text, "share/doc/csvtable/PROVED.md") if target == "docs/PROVED.md" else None

@@ -1,4 +1,4 @@
-# Inputs of the measurements, for the scripts that read this file.
+# Makes inputs of measurements, for the scripts that read this file.
 
 # Prints a header and ROWS rows of CELLS cells, each with WORD and a number below 1,000: short_cells ROWS CELLS WORD.
 short_cells() {
@@ -33,7 +33,7 @@ sentences() {
 }
 
 # Prints a header and 2,000 rows of 6 cells of 10 to 60 letters, in words of 1 to 8 letters from one alphabet: texts ALPHABETS.
-# Slashes separate the alphabets, and each begins with its weight in the choice of one.
+# Slashes separate the alphabets. Each alphabet begins with a number, its weight when an alphabet is chosen at random.
 texts() {
   awk -v alphabets="$1" '
     function drawn(count) { state = state * 16807 % 2147483647; return state % count }

@@ -22,7 +22,7 @@ def ours(call):
 
 
 def ours_with_wider_columns(call):
-    """The drawing of a call if each column is two wider than its header, as in tabulate."""
+    """The drawing of a call. Each column is at least two terminal columns wider than its header, as in tabulate."""
 
     def tabulate(*arguments, **settings):
         table = comfy_table_proved.Table(*arguments, **settings)
@@ -47,7 +47,7 @@ KINDS = {
 
 
 def random_call(chance):
-    """A random call to which no row of the page applies. Each column and each row has a value."""
+    """A random call to which no row of TABULATE.md applies. Each column and each row has a value."""
     kinds = [chance.choice([*KINDS.values()]) for _ in range(chance.randint(1, 4))]
     rows = [[chance.choice(kind) for kind in kinds] for _ in range(chance.randint(1, 4))]
     has_lines = any("\n" in str(value) for row in rows for value in row)

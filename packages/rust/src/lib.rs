@@ -47,7 +47,7 @@
 //!
 //! # Features of Cargo
 //!
-//! - `tty`, which is on by default: colours and attributes are written, and the terminal is asked for its width.
+//! - `tty`, which is on by default: colours and attributes are written, and tables use the width of the terminal.
 //! - `custom_styling`: escape sequences for colours and attributes (SGR) in texts take no terminal columns. This feature turns on
 //!   `tty`.
 //! - `_debug` and `_integration_test` do nothing. They exist because comfy-table has them.

@@ -664,15 +664,15 @@ impl Table {
     }
 
     /// Makes [`is_tty`](Table::is_tty) ask about standard error instead of standard output. Call this before the table is drawn,
-    /// because the system is asked only once, and its answer is kept.
+    /// because the system's first answer is kept.
     pub fn use_stderr(&mut self) -> &mut Table {
         self.terminal.is_at_stderr = true;
         self
     }
 
     /// Returns true if the output is a terminal. The output is standard output, or standard error after
-    /// [`use_stderr`](Table::use_stderr). After [`force_no_tty`](Table::force_no_tty) the answer is always false. The system is
-    /// asked only once, and its answer is kept.
+    /// [`use_stderr`](Table::use_stderr). After [`force_no_tty`](Table::force_no_tty) the result is always false. Otherwise the
+    /// system's first answer is kept.
     pub fn is_tty(&self) -> bool {
         let ask = || if self.terminal.is_at_stderr { io::stderr().is_terminal() } else { io::stdout().is_terminal() };
         !self.terminal.is_denied && *self.terminal.is_there.get_or_init(ask)

@@ -269,8 +269,8 @@ impl Rows {
     }
 
     /// Sets the greatest width of the table to the width of the terminal, in terminal columns. This is the value of the
-    /// environment variable `COLUMNS`, if that is a number from 1 to 65535. Otherwise the system is asked for the width. If the
-    /// system knows no width, it is 80.
+    /// environment variable `COLUMNS`, if that is a number from 1 to 65535. Otherwise it is the width that the system has for the
+    /// terminal. If the system knows no width, it is 80.
     #[cfg(feature = "tty")]
     pub fn terminal_width(self) -> Rows {
         let set = env::var("COLUMNS").ok().and_then(|text| text.parse().ok()).filter(|columns| *columns > 0);
