@@ -474,8 +474,8 @@ uint32_t comfy_csv_draw(const uint8_t *input, size_t input_length, const uint8_t
 
 /*
  * Each of these functions draws as the function above with a similar name. It returns the drawing, or csvtable's message, with a
- * zero byte after it. This is in allocated memory, which the caller frees by free. *result becomes the result of the function
- * above. A null pointer is returned if memory ran out, or if there is neither a drawing nor a message.
+ * zero byte at its end. The memory for this text is allocated, and the caller frees it by free. *result becomes the result of the
+ * function above. A null pointer is returned if memory ran out, or if there is neither a drawing nor a message.
  */
 static inline char *comfy_rows_text(const uint8_t *texts, size_t texts_length, const size_t *lengths, size_t lengths_length,
                                     const size_t *counts, size_t counts_length, const struct comfy_look *looks,

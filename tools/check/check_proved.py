@@ -19,7 +19,7 @@
 - The first comment of each file in specs/ of a library ends with the source of its rules.
 - Comments and pages have no more of the avoided words than tools/check/avoided.py allows.
 - No line of src/ and specs/ has more than 100 characters, except `use` lines and `#[tactic(..)]`, which `rt fmt` doesn't break.
-- The crate of documented examples agrees with the doc comments, and each other example has a test (tools/make/doc_examples.py).
+- The crate example_docs agrees with the doc comments. Each example that it doesn't have is in a test (tools/make/doc_examples.py).
 - csvtable's man page and completions agree with the program's options (tools/make/manual.py).
 - Each place that has the version agrees with CHANGELOG.md.
 - The gallery and the pictures agree with the stored outputs (tools/make/gallery.py, pictures.py). Each link of a page leads to a file or a heading.
@@ -98,7 +98,7 @@ def wrong_trials():
 
 
 def on_one_line(text):
-    """A clause, a signature or a source on one line and without lifetimes. Such texts can be compared whatever their layout is."""
+    """A clause, a signature or a source on one line and without lifetimes. So texts in different layouts can be compared."""
     line = " ".join(text.split()).replace("; }", " }").replace("( ", "(").replace(", )", ")")
     return re.sub(r"'\w+ (?=mut |\[|&|\w)|<'\w+>|\bmut (?=self\b)|\b(?:std::result|clap)::", "", line)
 

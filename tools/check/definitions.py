@@ -15,7 +15,7 @@ LIBRARIES = [
 PROMISES = ("crates/promises/src/", "crates/csv_promises/src/", "crates/comfy_c/src/promised.rt")
 BRACES = r"\{(?:[^{}]|\{(?:[^{}]|\{[^{}]*\})*\})*\}"
 PUBLIC = r"(?:pub(?:\(\w+\))? )?"
-MODEL = {"Value", "view"}  # the ghost members that define a type's model; an invariant isn't among them, because it is proved
+MODEL = {"Value", "view"}  # the ghost members that define a type's model; invariants, which are proved, aren't among them
 
 
 @dataclass(frozen=True)
@@ -37,7 +37,7 @@ class Definition:
 
 @dataclass(frozen=True)
 class Function:
-    """A function: the words by which a page can name its place, its clauses by name, and its signature."""
+    """A function: its place, in the words by which a page can name it, its clauses by name, and its signature."""
 
     places: set
     clauses: list

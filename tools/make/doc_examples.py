@@ -265,7 +265,7 @@ fn show(rt: &HostRuntime, text: Result<String>) -> anyhow::Result<()> {
 
 
 def laid_out(texts):
-    """The files in the layout of `rt fmt`, which examples in comments may not have."""
+    """The files in the layout of `rt fmt`. Examples in comments may have another layout."""
     with tempfile.TemporaryDirectory() as room:
         shutil.copy(f"{TOP}/crates.txt", room)
         for path, text in texts.items():

@@ -85,7 +85,7 @@ def page_for_man(path):
 
 
 def blocks(text):
-    """The paragraphs, lists and examples of a text, for man."""
+    """The paragraphs, lists and examples of a text, in the form for man."""
     for block in re.findall(r"```.*?```|(?:(?!\n\n).)+", text, re.S):
         block = block.strip("\n")
         if block.startswith("```"):
@@ -194,7 +194,7 @@ MADE = {"share/csvtable.1": man_page, "share/csvtable.bash": bash, "share/_csvta
 
 
 def wrong_files():
-    """The paths of the files that differ from the output."""
+    """The paths of the files that differ from what this program would write."""
     return [path for path, made in MADE.items() if not os.path.isfile(os.path.join(TOP, path)) or text_of(path) != made()]
 
 

@@ -149,7 +149,7 @@ def cases():
 def written_by(program, words, data):
     """The output of the program, or its message if it draws nothing. The library reads all records, as the program does with --count.
 
-    An argument may be the input's name, so the input is in files with the names of all arguments.
+    An argument may be the name of the input. So the input is written into files with the names of all arguments.
     """
     environment = {name: value for name, value in os.environ.items() if name not in ("COLUMNS", "NO_COLOR")}
     with tempfile.TemporaryDirectory() as folder:

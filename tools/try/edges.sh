@@ -122,7 +122,7 @@ refused 'a file that is not there' "$work/none: no such file" "$work/none"
 refused 'a folder as a file' "$work: is a directory" "$work"
 : > "$work/closed"
 chmod 000 "$work/closed"
-# The superuser can read it.
+# The superuser can read this file, so the run is left out then.
 [ -r "$work/closed" ] || refused 'a file that may not be read' "$work/closed: permission denied" "$work/closed"
 refused 'a column that is not there' "standard input: no column '09'; there are 'a' and 'b'" -c 09
 refused 'all columns left out' 'standard input: no column is left' --drop 1-

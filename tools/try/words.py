@@ -61,7 +61,7 @@ def fault(program, random):
         return f"{command}: records are expanded, or not, at a least width of {total(False)}\n" + "\n".join(lines) + "\n" + drawing, False
     has_room = total(True) <= width
     for name, fields, is_numeric in columns if is_table else []:
-        # an aligned decimal point leaves digits as they are
+        # aligning decimal points doesn't change digits
         whole = fields if is_numeric else [word for field in fields for word in field.split(" ")] if has_room else []
         if not is_numeric and any(len(word) > WHOLE for word in whole):
             whole = []

@@ -54,7 +54,7 @@ pub struct Table {
     terminal: Terminal,
 }
 
-// The settings about the terminal, and the system's answer to the question if the output is a terminal.
+// The settings about the terminal. `is_there` keeps the system's answer.
 #[cfg(feature = "tty")]
 #[derive(Clone, Debug, Default)]
 struct Terminal {

@@ -85,8 +85,8 @@ def _asks_for_text(arguments: list[str]) -> bool:
 def _of_terminal(arguments: list[str]) -> list[str]:
     """Options that make csvtable draw as it does in a terminal.
 
-    One sets the terminal's width, unless the arguments set a width or ask for Markdown. The other asks for colours, unless the
-    arguments or NO_COLOR decide about these. There are none if standard output isn't a terminal.
+    One is --width with the terminal's width, unless the arguments set a width or ask for Markdown. The other is --color=always,
+    unless the arguments have --color, or NO_COLOR is set and not empty. There are none if standard output isn't a terminal.
     """
     if not sys.stdout.isatty():
         return []

@@ -40,8 +40,8 @@ GAP = "\ue000"
 class Frame(NamedTuple):
     """A frame.
 
-    `lines` has the characters of its six lines. `number` is its number in comfy_table.h, or None if it has none. `row_lines` is
-    the condition for lines between rows.
+    `lines` has the characters of the frame's six lines. `number` is the frame's number in comfy_table.h, or None if it has no
+    number there. `row_lines` is the condition for lines between rows.
     """
 
     lines: tuple[str, ...]

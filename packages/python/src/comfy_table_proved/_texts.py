@@ -47,7 +47,7 @@ class Writer:
         return [self._plain("" if name is None else _text(name)) for name in header]
 
     def _texts_of(self, position: int, row: list[Any], names: list[str]) -> list[str]:
-        """The texts of the row at a position, with the sequences of their colours.
+        """The texts of the row at a position, with escape sequences for colours.
 
         `names` are the names of the columns.
         """

@@ -160,11 +160,11 @@ impl ContentLineStyle {
 pub struct TableStyle {
     /// The line above the table.
     pub top_border: LineStyle,
-    /// The borders of the header's lines.
+    /// The vertical borders in the header.
     pub header_lines: ContentLineStyle,
     /// The line below the header.
     pub header_separator: LineStyle,
-    /// The borders of the rows' lines.
+    /// The vertical borders in the rows.
     pub content_lines: ContentLineStyle,
     /// The line between two rows.
     pub row_separator: LineStyle,
@@ -191,7 +191,7 @@ impl TableStyle {
         self
     }
 
-    /// Sets the borders of the header's lines.
+    /// Sets the vertical borders in the header.
     pub const fn header_lines(mut self, line: ContentLineStyle) -> TableStyle {
         self.header_lines = line;
         self
@@ -216,7 +216,7 @@ impl TableStyle {
         self
     }
 
-    /// Sets the borders of the rows' lines.
+    /// Sets the vertical borders in the rows.
     pub const fn content_lines(mut self, line: ContentLineStyle) -> TableStyle {
         self.content_lines = line;
         self
