@@ -281,7 +281,7 @@ struct comfy_rows_settings {
     uint32_t aligns_decimals; /* a flag: in a column of numbers, decimal points are below each other */
     uint32_t has_sequences;   /* a flag: sequences of colours and attributes (SGR) in texts are kept, and take no columns */
     uint32_t is_markdown;     /* a flag: the table is for Markdown, whatever the other fields are */
-    struct comfy_frame frame; /* the lines of COMFY_OWN_STYLE, which no other style reads */
+    struct comfy_frame frame; /* the frame that COMFY_OWN_STYLE draws; any other style ignores it */
 };
 
 /* These settings draw all rows, without a width, with round corners and with a header. Lines between rows are drawn if a drawn row
@@ -416,7 +416,7 @@ struct comfy_cells_settings {
     uint32_t enforce_styling; /* a flag: colours and attributes are written */
     uint32_t style_text_only; /* a flag: they apply to texts, and not to the spaces beside them */
     uint32_t custom_styling;  /* a flag: sequences of colours and attributes (SGR) in texts take no columns */
-    struct comfy_frame frame; /* the lines of COMFY_OWN_STYLE, which no other style reads */
+    struct comfy_frame frame; /* the frame that COMFY_OWN_STYLE draws; any other style ignores it */
 };
 
 #define COMFY_CELLS_SETTINGS \

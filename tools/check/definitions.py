@@ -25,7 +25,7 @@ class Definition:
     path: str
     line: int
     text: str = field(compare=False)
-    head: str = field(compare=False, default="")  # the line of its module or block
+    head: str = field(compare=False, default="")  # the first line of the module or block around it
 
     def lines(self):
         return self.text.count("\n") + 1
@@ -128,7 +128,7 @@ def specs_in(path):
 
 @functools.cache
 def blocks_in(path):
-    """The impls and traits of a file, as matches."""
+    """The impls and traits of a file, as matches of a pattern."""
     block = r"^(?:pub )?(?:impl|trait)\b[^{]*\{\n(?:(?: .*)?\n)*\}"
     return list(re.finditer(block, text_of(path), re.M))
 

@@ -54,7 +54,7 @@ FORM = r"file: \S+\n(?:(?:file: \S+\n)?old: .+\nnew:.*\n)+"  # of an edit
 
 
 class Mutation:
-    """Pairs of texts. The old one is in a file of the crate exactly once, and the new one replaces it."""
+    """Pairs of texts. Each old text is in a file of the crate exactly once, and the new text replaces it."""
 
     def __init__(self, name, lines, crate):
         self.name, self.pairs, self.tries, self.is_alone = name, [], 0, False

@@ -4,7 +4,7 @@ from the options in the program's source. The man page also has the sections of 
 
     tools/make/manual.py
 
-tools/check/check_proved.py names the files that differ from the output.
+tools/check/check_proved.py names the files that differ from the output of this program.
 """
 import os
 import re

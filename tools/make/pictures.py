@@ -129,7 +129,7 @@ def style_of(codes, style):
 
 
 def in_order(word):
-    """The characters of a word from left to right. Arabic letters have the forms that they have between their neighbours."""
+    """The characters of a word from left to right. Arabic letters get the forms that they have beside their neighbours."""
     if not any(unicodedata.bidirectional(it) in ("R", "AL") for it in word):
         return word
     joined = [(first, "<initial>") in FORMS and (second, "<final>") in FORMS for first, second in zip(word, word[1:])]

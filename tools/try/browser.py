@@ -147,7 +147,8 @@ def cases():
 
 
 def written_by(program, words, data):
-    """The output of the program, or its message if it draws nothing. The library reads all records, as the program does with --count.
+    """The output of the program, or its message if it draws nothing. The library always reads all records. With --limit, the
+    program does so only if it has --count, which is added then.
 
     An argument may be the name of the input. So the input is written into files with the names of all arguments.
     """

@@ -22,7 +22,7 @@ has() {
   command -v "$1" > /dev/null
 }
 
-# Unpacks the archive for C, or the wheel, of a system, if it is there: unpack SYSTEM FILE.
+# Unpacks a system's archive for C or its wheel, if there is such a file: unpack SYSTEM FILE.
 unpack() {
   mkdir -p "$work/$1"
   case $2 in

@@ -310,7 +310,7 @@ PROGRAMS = {
     "column -ts,": ["column", "-t", "-s", ","],
 }
 
-# The commands of these programs with an option that suits a file. Those of csvtable are in RUNS.
+# For each of these programs, commands with an option that suits a file. The commands of csvtable are in RUNS.
 SUITING = {
     "csvlook -I": {
         "bank.csv": ["csvlook", "-I", "-e", "cp1252"],

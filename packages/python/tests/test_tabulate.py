@@ -1,4 +1,5 @@
-"""Tests with calls of the package tabulate. Each drawing equals the stored one of tabulate, or differs as TABULATE.md says."""
+"""Tests with calls of the package tabulate. Each drawing equals the stored drawing of tabulate, or differs from it as TABULATE.md
+says."""
 
 import json
 import random
@@ -116,7 +117,7 @@ class Tabulate(unittest.TestCase):
 
 
 class Readers(unittest.TestCase):
-    """Other programs read the cells of a drawing."""
+    """Tests in which other programs read the cells of a drawing."""
 
     def cells_by(self, program, *arguments, rows=ROWS, tablefmt):
         if not shutil.which(program):

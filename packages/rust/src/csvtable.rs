@@ -31,7 +31,7 @@ use crate::library::{self, CsvAnswer};
 ///
 /// # Errors
 ///
-/// - [`Error::Arguments`] if the arguments are refused. If they ask for csvtable's help or version, this error has that text.
+/// - [`Error::Arguments`] if the arguments are refused. If they ask for csvtable's help or version, the error has that text.
 /// - [`Error::Input`] if the input can't be drawn.
 /// - [`Error::OutOfMemory`] if memory runs out.
 ///

@@ -92,7 +92,7 @@ pub enum ColumnConstraint {
     /// ```
     LowerBoundary(Width),
     /// The column has at most this width. There is an exception under [`ContentArrangement::Disabled`], and also if the table's
-    /// width isn't known: if no text is wider than this width without paddings, the constraint is ignored.
+    /// width isn't known. The constraint is ignored then, unless a text is wider than this width even without its paddings.
     ///
     /// ```
     /// use comfy_table_proved::{ColumnConstraint::*, Table, Width::*};
@@ -106,8 +106,8 @@ pub enum ColumnConstraint {
     /// +----+-------------+");
     /// ```
     UpperBoundary(Width),
-    /// The column has at least the width `lower`, and at most the width `upper`. The first works as `LowerBoundary`, and the
-    /// second as `UpperBoundary`.
+    /// The column has at least the width `lower`, and at most the width `upper`. `lower` works as the width of `LowerBoundary`,
+    /// and `upper` as the width of `UpperBoundary`.
     ///
     /// ```
     /// use comfy_table_proved::{ColumnConstraint::*, Table, Width::*};

@@ -4,8 +4,8 @@ use std::env;
 use std::io;
 use std::sync::OnceLock;
 
-/// The width of the terminal that controls the process, in columns. If there is none, it is the width of the terminal that
-/// standard output is. `None` means that neither has a known width.
+/// The width of the terminal that controls the process, in columns. If this width isn't known, it is the width of the terminal
+/// that standard output writes to. `None` means that neither width is known.
 pub fn columns() -> Option<u16> {
     let of_process = system::terminal().ok().and_then(|terminal| system::columns_of(&terminal));
     of_process.or_else(|| system::columns_of(&io::stdout()))

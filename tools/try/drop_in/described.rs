@@ -234,7 +234,7 @@ impl DescribedColumn {
 }
 
 impl DescribedStyle {
-    /// Returns true if a line of the style has a junction. Of the presets, only the last one has none.
+    /// Returns true if a line of the style has a junction. Of the presets, only the last one has no junction.
     pub fn has_junctions(&self) -> bool {
         let own = [2, 5, 9, 12, 16, 20].iter().any(|at| self.characters[*at].is_some());
         self.is_solid || self.preset.map_or(own, |number| number < 12)

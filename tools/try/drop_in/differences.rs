@@ -5,8 +5,8 @@ use crate::shown::{Shown, Style, may_be_shown, shown_from, visible};
 use crate::{Drawing, original, proved};
 use std::panic::catch_unwind;
 
-/// A row of the page. `applies_to` is true for tables with the difference. `remedy` changes such a table so that it has no
-/// difference. The original has to draw the changed table as the package draws the unchanged table. If `changes` is `Both`, the
+/// A row of docs/DIFFERENCES.md. `applies_to` is true for tables with the difference. `remedy` changes such a table so that it has
+/// no difference. The original has to draw the changed table as the package draws the unchanged table. If `changes` is `Both`, the
 /// package draws the changed table too.
 struct Row {
     name: &'static str,

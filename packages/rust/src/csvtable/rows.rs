@@ -349,8 +349,8 @@ impl Rows {
         self
     }
 
-    /// If true, writes the header in bold. In expanded rows, the names of the columns are bold. The table doesn't need to go to a
-    /// terminal for this. A table for Markdown has no bold header.
+    /// If true, writes the header in bold. In expanded rows, the names of the columns are bold. Bold is written even if the output
+    /// isn't a terminal. A table for Markdown has no bold header.
     pub fn bold_header(mut self, is_bold: bool) -> Rows {
         self.settings.has_bold_header = is_bold;
         self
