@@ -22,8 +22,8 @@
  *  - The table that comfy_rows_draw writes keeps all promises on rows in PROVED.md. For example, no text is lost, edges are
  *    straight, and the table isn't wider than its width, under the conditions of that page. This is proved if looks and heights
  *    are empty, and if columns have no other settings than COMFY_COLUMN_LEFT, COMFY_COLUMN_RIGHT and COMFY_COLUMN_HIDDEN. With
- *    looks, heights or other settings of columns, the lines before the count of rows, such as "2 of 3 rows", keep all promises on
- *    a table's lines. The lines of comfy_cells_draw keep these promises too.
+ *    looks, heights or other settings of columns, the lines of the table keep all promises on a table's lines, as those of
+ *    comfy_cells_draw do. A line below the table that counts the rows, such as "2 of 3 rows", isn't one of these lines.
  *  - Each call ends. It reads and writes only its own memory, and the memory that its arguments give it.
  *
  * Not proved, but tested:

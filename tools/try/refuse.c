@@ -6,8 +6,8 @@
  * before it, a line is printed: `request N: status S, B bytes, ERRORS`. S is the exit status, or 128 plus the number of the signal
  * that ended the run. B is the number of bytes on standard output. ERRORS is the beginning of standard error.
  *
- * The last line is `refused in turn: N;` with the number N of refused requests. After this, ` C status S, B bytes, ERRORS;` has
- * the number C of runs for each way in which runs ended.
+ * The last line is `refused in turn: N;` with the number N of refused requests. After this it has ` C status S, B bytes, ERRORS;`
+ * for each way in which runs ended. C is the number of runs that ended in this way.
  *
  * The shared library made from refusing.c refuses the requests. Its file has to be in the same folder as this program, with the
  * program's name and `.so` after it.

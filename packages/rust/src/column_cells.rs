@@ -26,7 +26,7 @@ impl<'a> Iterator for ColumnCellIter<'a> {
 }
 
 /// An iterator over the cells of a column. The first item is the cell of the header. It is `None` if there is no header, or if the
-/// header has no cell in the column. The items of [`ColumnCellIter`] follow.
+/// header has no cell in the column. The next items are those of [`ColumnCellIter`].
 /// [`Table::column_cells_with_header_iter`](crate::Table::column_cells_with_header_iter) makes this iterator.
 pub struct ColumnCellsWithHeaderIter<'a> {
     // the item for the header, or `None` after it was returned

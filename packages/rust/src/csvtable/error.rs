@@ -1,7 +1,7 @@
 use crate::library::OutOfMemory;
 use std::fmt;
 
-/// The reason why there is no drawing.
+/// The reason why a call of this module failed.
 ///
 /// ```
 /// use comfy_table_proved::csvtable::{Error, Rows, draw_csv};

@@ -591,7 +591,7 @@ impl<V: IntoCells> Display for Values<'_, V> {
     }
 }
 
-// A text that others are appended to. `end` always has its number of bytes.
+// The text to which the values are appended. `end` always has its number of bytes.
 struct Joined<'a> {
     text: &'a mut String,
     end: &'a cell::Cell<usize>,
