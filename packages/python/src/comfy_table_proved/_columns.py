@@ -94,7 +94,7 @@ class Layout:
         return [(1, 1) if it is None else _pair_of(it) for it in asked]
 
     def _for_each(self, setting: Any) -> list[Any]:
-        """The value of a setting for each column, or None for a column without one.
+        """The value of a setting for each column, or None if it has none.
 
         A setting is one value for all columns, a list of values for the first columns, or a dict of values by column.
         """

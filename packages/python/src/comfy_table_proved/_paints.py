@@ -1,4 +1,4 @@
-"""Words for colours and attributes, and cells that have colours of their own."""
+"""Words for colours and attributes, and cells with their own colours."""
 
 from __future__ import annotations
 

@@ -1,4 +1,4 @@
-"""Rows from lists, dicts, cursors, DataFrames and others, read into lists of values."""
+"""Reads rows from lists, dicts, cursors, DataFrames and others."""
 
 from __future__ import annotations
 

@@ -401,7 +401,7 @@ def _colons(cell: str, side: int, has_all: bool) -> str:
 
 
 def _refuse_settings(table: Table, values: Values, is_markdown: bool) -> None:
-    """Raises ValueError for settings that Markdown or expanded rows can't have."""
+    """Raises ValueError for settings that Markdown or expansion refuses."""
     if not is_markdown and not table.expanded:
         return
     is_expanded = not is_markdown and table.expanded != "auto"
@@ -474,9 +474,10 @@ def _settings_of(
 
 
 def _heights_of(heights: Heights, headers: int, rows: int) -> list[int]:
-    """The greatest heights of the header and of each row, if `heights` is a list.
+    """The greatest heights of the header and of each row.
 
-    In the result, 0 means no limit. In `heights`, None means no limit, and 0 counts as 1.
+    The result is empty if `heights` isn't a list. In the result, 0 means no limit. In `heights`, None means no limit, and 0 counts
+    as 1.
     """
     if not isinstance(heights, (list, tuple)):
         return []
