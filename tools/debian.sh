@@ -21,8 +21,8 @@ Description: draws the records of a CSV file as a table
 END
 }
 
-# Puts the files of csvtable into an empty folder, at their places in Debian, with their checksums and the control file:
-# put_debian FOLDER VERSION.
+# Puts the files of csvtable into an empty folder, at the places that they have in Debian: put_debian FOLDER VERSION. It adds their
+# checksums and the control file.
 put_debian() {
   root=$1 prefix=$1/usr
   maintainer='The authors of comfy_table <authors@comfy-table.invalid>'
@@ -45,7 +45,8 @@ END
   find "$root" -exec touch -d "@$SOURCE_DATE_EPOCH" {} +
 }
 
-# Writes the package of such a folder to a file, by dpkg-deb if it is installed, or else by tar and ar: write_debian FOLDER FILE.
+# Writes the package from the folder that put_debian filled to a file: write_debian FOLDER FILE. dpkg-deb does this if it is
+# installed. Otherwise tar and ar do it.
 write_debian() {
   if command -v "${DPKG_DEB-dpkg-deb}" > /dev/null; then
     "${DPKG_DEB-dpkg-deb}" --root-owner-group -Zxz --build "$1" "$2" > /dev/null

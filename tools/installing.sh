@@ -1,6 +1,6 @@
-# Builds and installs programs, for the scripts that read this file at the top of the project.
+# Functions that build and install programs. Scripts read this file in the top folder of the project.
 
-# Builds what a crate's out/ hasn't yet, by a command in the crate's folder.
+# Builds a file of a crate's folder out/ if it isn't there yet, by a command in the crate's folder.
 build() {
   crate=$1 made=$2
   shift 2
@@ -16,7 +16,7 @@ put() {
   echo "$folder/$name"
 }
 
-# The library for C, with what it needs of the toolchain.
+# Installs the library for C, with the library of the toolchain that it needs.
 put_library() {
   build comfy_c libcomfy_c.a ../../tools/make/c_library.py
   put 644 packages/c/comfy_table.h include
@@ -29,8 +29,8 @@ put_library() {
   tools/make/pages.py "$prefix" docs/PROVED.md=share/doc/comfy_table/PROVED.md docs/DIFFERENCES.md=share/doc/comfy_table/DIFFERENCES.md
 }
 
-# The program csvtable with its pages and its completions. It is in libexec/, and bin/csvtable is a script that runs it with
-# the width of the terminal.
+# Installs the program csvtable with its pages and its completions. The program is in libexec/. bin/csvtable is a script that runs
+# the program with the width of the terminal.
 put_csvtable() {
   build csvtable csvtable rt run -- --version
   put 755 crates/csvtable/out/csvtable libexec

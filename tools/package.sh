@@ -1,14 +1,19 @@
 #!/bin/sh
-# Makes all that a release has in a folder: a crate for Rust, for each target a wheel for Python and an archive with the library
-# for C, its header and its file for pkg-config, and of the program csvtable, with its pages and its completions, a Debian package
-# and an archive. For a browser it makes the page csvtable.html. If a program for a file isn't there, the file is left out, and
-# the last line says so.
-# No network is needed. What isn't built yet is built first, which proves it. Equal files make equal packages.
+# Makes the files of a release in a folder:
+#  - a crate for Rust
+#  - for each target, a wheel for Python
+#  - for each target, an archive with the library for C, its header and its file for pkg-config
+#  - a Debian package and an archive, each with the program csvtable, its pages and its completions
+#  - the page csvtable.html for browsers
+# If a file needs a program that isn't installed, the file is left out, and the last line says so.
+# No network is needed. Anything that isn't built yet is proved and built first. Equal files make equal packages.
 #
 # usage: tools/package.sh OUT
-# CC is the compiler that links the shared library of the wheel for this system, cc if it isn't set. Making the wheel takes Python 3.11.
-# DPKG_DEB is the program that writes the Debian package, dpkg-deb if it isn't set; without it tar and ar write it.
-# SOURCE_DATE_EPOCH is the time of all files, the day of the version if it isn't set.
+# These variables have an effect:
+#  - CC is the compiler that links the shared library of the wheel for this system, by default cc.
+#  - DPKG_DEB is the program that writes the Debian package, by default dpkg-deb. If it isn't installed, tar and ar write it.
+#  - SOURCE_DATE_EPOCH is the time of all files, by default the day of the version.
+# Making the wheel takes Python 3.11.
 set -eu
 if [ $# -ne 1 ]; then
   echo "usage: $0 OUT" >&2
@@ -27,13 +32,13 @@ for file in packages/python/pyproject.toml packages/rust/Cargo.toml; do
 done
 export SOURCE_DATE_EPOCH="${SOURCE_DATE_EPOCH:-$(date -ud "$(sed -n 's/^\.TH CSVTABLE 1 \([0-9-]*\) .*/\1/p' share/csvtable.1)" +%s)}"
 
-# Whether a program is there that makes a file; if not, the file is left out.
+# True if the program is installed that makes a file. Otherwise the file is noted as left out.
 left_out=
 has() {
   command -v "$1" > /dev/null || { left_out="$left_out $2 (no $1)" && return 1; }
 }
 
-# Prints a tar of a folder's files under a name, the same for equal files.
+# Prints a tar archive of the files under a name in a folder. Equal files give an equal archive.
 packed() {
   folder=$1 name=$2
   shift 2
@@ -47,8 +52,8 @@ packed "$work" "csvtable-$version" | gzip -9n > "$out/csvtable-$version-linux-x8
 put_debian "$work/debian" "$version"
 write_debian "$work/debian" "$out/csvtable_${version}_amd64.deb"
 
-# The libraries for each system in a folder, and a shared one for Python. That for Linux names no C library, and takes what it
-# needs of the one that Python has, so that it is for each of them.
+# For each system there is a folder with the static libraries and a shared library for Python. The shared library for Linux isn't
+# linked with a C library. It uses the C library that Python itself uses, so it works with each C library.
 prefix=$work/c
 build comfy_c module.bc ../../tools/make/c_library.py
 put_library > /dev/null
@@ -60,7 +65,7 @@ link_shared() {
 }
 link_shared "${CC:-cc}" "$work/lib/linux-x86_64"
 
-# Other targets: the name in files, the target in Rust's words, a file that is made, and a program that takes.
+# The other targets. Each line has the name in files, Rust's name of the target, a file that is made, and a program that is needed.
 while read -r system target made program; do
   has "$program" "$system" || continue
   build comfy_c "$target/$made" ../../tools/make/targets.py "$target"
@@ -88,7 +93,7 @@ for folder in "$work"/lib/*; do
   mkdir -p "$work/$name/lib/$system"
   cp "$folder"/*comfy_c.* "$folder"/*libc_c.* "$work/$name/lib/$system"
   for shared in "$folder"/*comfy_table.*; do
-    # Without MinGW there is no DLL.
+    # Without the compiler MinGW there is no DLL.
     [ -e "$shared" ] || continue
     cp -r packages/python "$work/python"
     cp LICENSE "$work/python"

@@ -1,10 +1,10 @@
 #!/bin/sh
-# Runs the checks and tools of docs/TESTING.md that a release has to pass, and makes the packages. The last lines say which passed,
-# which failed, and which were skipped and why. The output of each is in OUT/logs.
+# Runs the checks and tools of docs/TESTING.md that a release has to pass, and makes the packages. The last lines say which of them
+# passed, which failed, and which were skipped for which reason. Their outputs are in OUT/logs.
 #
 # usage: tools/release.sh OUT [ORIGINAL]
 # OUT is a folder for the packages and logs. ORIGINAL is a folder with the sources of comfy-table, as tools/try/drop_in.sh needs it.
-# If ALL is set, each wrong body is tried too, which takes about ten hours.
+# If the variable ALL is set, each mutation of a function is tried too, which takes about ten hours.
 set -u
 if [ $# -lt 1 ]; then
   echo "usage: $0 OUT [ORIGINAL]" >&2

@@ -1,15 +1,16 @@
 "use strict";
 
-// Names that comfy_table.h has for results.
+// Two results of comfy_csv_draw, with the names of comfy_table.h.
 const DRAWN = 0, OUT_OF_MEMORY = 3;
 
-// The function comfy_csv_draw in an instance of the module, which has memory of its own.
+// Calls of comfy_csv_draw in an instance of the WebAssembly module. Each instance has its own memory.
 class Library {
   constructor(module) {
     this.called = new WebAssembly.Instance(module).exports;
   }
 
-  // The bytes of the memory from an address on. An earlier view is of no use after a call, which may take more memory.
+  // The bytes of the instance's memory from an address on. After a call of the module, an earlier result can't be used any more,
+  // because the memory may have grown.
   bytes(address, length) {
     return new Uint8Array(this.called.memory.buffer, Number(address), length);
   }
@@ -26,7 +27,7 @@ class Library {
     return address;
   }
 
-  // The result for an input and arguments, and the bytes of the drawing or of csvtable's message.
+  // Calls comfy_csv_draw with an input and arguments. Returns its result, and the bytes of the drawing or of csvtable's message.
   draw(input, words) {
     const joined = new TextEncoder().encode(words.map((word) => word + "\0").join(""));
     const given = [this.put(input), BigInt(input.length), this.put(joined), BigInt(joined.length)];

@@ -1,9 +1,10 @@
 /*
- * Memory in a module of WebAssembly: malloc, realloc and free. A block has a power of two of bytes, after a header of 16 bytes
- * with its class, the exponent. Freed blocks of a class are listed. They are never joined, and memory that came from the
- * browser is never given back; the page makes an instance of the module for each drawing.
+ * The functions malloc, realloc and free in a WebAssembly module. The number of bytes of a block is a power of two, and the
+ * exponent is the block's class. Before each block is a header of 16 bytes, which holds the class. The freed blocks of each class
+ * are in a list. Free blocks are never joined, and no memory is given back to the browser. For this reason the page makes a new
+ * instance of the module for each drawing.
  *
- * Nothing proves these functions.
+ * These functions aren't proved.
  */
 typedef unsigned long u64;
 
@@ -16,7 +17,8 @@ extern unsigned char __heap_base;
 static u64 next, end;
 static void *freed[64];
 
-/* Asks the browser for memory up to an address, and for a quarter of what is there if it gives that. */
+/* Asks the browser for memory up to an address, and for a quarter of the present memory besides. If the browser refuses that, this
+ * asks only for memory up to the address. Returns 0 if this is refused too. */
 static int is_grown_to(u64 address) {
     u64 pages = (address - end + 65535) >> 16, more = pages + (end >> 18);
     if (__builtin_wasm_memory_grow(0, more) == (u64)-1) more = __builtin_wasm_memory_grow(0, pages) == (u64)-1 ? 0 : pages;

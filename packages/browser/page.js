@@ -2,11 +2,13 @@
 
 const of = (id) => document.getElementById(id);
 
-// The height is in pixels. Browsers have no box for many more lines than the first number. The second are shown at once.
+// LINE_HEIGHT is in pixels. MOST_LINES is the greatest number of lines that the page can show, because a browser's boxes have a
+// greatest height. SHOWN_LINES is the number of lines that are in the page at once.
 const LINE_HEIGHT = 17, MOST_LINES = 1_000_000, SHOWN_LINES = 500;
 
-// Characters that a browser's monospaced font has. Others come from other fonts, and are made as wide as the library counts them:
-// together with the character before them, as the accent of a letter, and with single spaces between words of one writing.
+// OTHER matches a character that a browser's monospaced font may lack. Such characters come from other fonts, so the page makes
+// them as wide as the library counts them. RUN matches a run of them, whose width is set as a whole. To a run belongs the
+// character before it, because an accent needs its letter. Single spaces between such characters belong to it too.
 const OTHER = "[^ -~\\u00a0-\\u017f\\u2026\\u2500-\\u257f]";
 const RUN = new RegExp(`[!-~]?${OTHER}+(?: ${OTHER}+)*`, "gu");
 
@@ -16,7 +18,8 @@ const widths = new Map();
 
 // ---- drawing
 
-// Asks a worker for the drawing or message of csvtable, so that the page stays usable. A newer question ends an older one.
+// Asks a worker for csvtable's drawing or message, so that the page stays usable in the meantime. A new call ends the call before
+// it.
 function asked(blob, words) {
   if (stop) stop();
   worker ??= new Worker(URL.createObjectURL(new Blob([of("library").textContent, of("worker").textContent])));
@@ -38,13 +41,13 @@ function asked(blob, words) {
   });
 }
 
-// The words of a line, as a shell separates them, with quotes about spaces.
+// The words of a line. Spaces separate them, unless they are between quotes, as in a shell.
 function wordsOf(line) {
   const words = line.match(/(?:"[^"]*"|'[^']*'|[^\s"'])+/g) ?? [];
   return words.map((word) => word.replace(/"([^"]*)"|'([^']*)'/g, "$1$2"));
 }
 
-// How many columns of the font are in the place for the drawing.
+// The number of characters of the font that fit into a line of the drawing's place.
 function columns() {
   const zeros = of("lines").appendChild(document.createElement("span"));
   zeros.textContent = "0".repeat(100);
@@ -53,7 +56,7 @@ function columns() {
   return Math.floor((of("view").clientWidth - 2 * of("lines").offsetLeft) / width);
 }
 
-// All arguments. Of two that are the same option, csvtable takes the last.
+// All arguments for csvtable. If an option is there twice, csvtable takes the last one.
 function argumentsNow() {
   const fits = of("fits").checked && !of("markdown").checked ? ["-w", String(Math.max(1, columns()))] : [];
   const words = wordsOf(of("words").value);
@@ -77,7 +80,7 @@ async function draw() {
 
 // ---- showing lines
 
-// Shows the lines that are in sight, and some before and after them.
+// Puts the lines that are in sight into the page, and some lines before and after them.
 function show() {
   const lines = Math.min(drawn.starts.length - 1, MOST_LINES);
   const seen = Math.floor(of("view").scrollTop / LINE_HEIGHT);
@@ -99,7 +102,8 @@ function showMore() {
   if (first < drawn.first || (last > drawn.last && drawn.last < lines)) show();
 }
 
-// Finds the columns that runs take, from the spaces that the library puts after each in a table of one column.
+// Finds the width of each run in columns. For this it draws a table of one column with a run in each row, and counts the spaces
+// that the library puts after the run.
 function measure(runs) {
   const unknown = [...new Set(runs)].filter((run) => !widths.has(run));
   if (!unknown.length) return;
@@ -140,7 +144,7 @@ function appendRuns(part, piece) {
 
 const COLORS = "#555 #c33 #283 #960 #36c #a3a #188 #999 #777 #e55 #4a5 #c82 #58e #c5c #3aa #ccc".split(" ");
 
-// The colour that numbers name after 38 or 48, which are taken from them.
+// The colour that SGR parameters name after 38 or 48. The parameters of the colour are removed from the list.
 function colorFrom(numbers) {
   if (numbers.shift() === 2) return `rgb(${numbers.splice(0, 3).join(" ")})`;
   const number = numbers.shift();

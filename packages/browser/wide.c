@@ -1,6 +1,6 @@
 /*
- * Shifts, products and quotients of 128 bits, which a compiler for WebAssembly takes from its own library. Nothing proves these
- * functions. Their names and meanings are those of compiler-rt; a shift is by less than 128 bits.
+ * Shifts, products and quotients of numbers of 128 bits. Code that a compiler makes for WebAssembly calls these functions. Their
+ * names and meanings are those of the library compiler-rt. A shift is by less than 128 bits. These functions aren't proved.
  */
 typedef unsigned long u64;
 typedef unsigned __int128 u128;
@@ -21,7 +21,7 @@ u128 __lshrti3(u128 a, int n) {
     return n ? of(high >> n, low >> n | high << (64 - n)) : a;
 }
 
-/* The product of two numbers of 64 bits, by those of their halves. */
+/* The product of two numbers of 64 bits, made from the products of their halves. */
 static u128 product(u64 a, u64 b) {
     u64 low_a = a & 0xffffffff, high_a = a >> 32, low_b = b & 0xffffffff, high_b = b >> 32;
     u64 low = low_a * low_b, middle = high_a * low_b + (low >> 32), other = low_a * high_b + (middle & 0xffffffff);
@@ -32,7 +32,7 @@ u128 __multi3(u128 a, u128 b) {
     return product((u64)a, (u64)b) + of((u64)(a >> 64) * (u64)b + (u64)a * (u64)(b >> 64), 0);
 }
 
-/* The quotient, bit by bit as on paper if a number has more than 64 bits. */
+/* The quotient. If a number has more than 64 bits, this is a long division, bit by bit. */
 u128 __udivti3(u128 a, u128 b) {
     if (!(a >> 64) && !(b >> 64)) return (u64)a / (u64)b;
     u128 rest = 0, quotient = 0;

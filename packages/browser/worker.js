@@ -1,4 +1,4 @@
-// The first byte of each line, and after them the end of the last one.
+// The position of each line's first byte, and after these the end of the last line.
 function startsOfLines(bytes) {
   const starts = [0];
   for (let at = bytes.indexOf(10); at >= 0; at = bytes.indexOf(10, at + 1)) starts.push(at + 1);
@@ -6,7 +6,7 @@ function startsOfLines(bytes) {
   return Uint32Array.from(starts);
 }
 
-// Draws with a new instance for each drawing, because an instance gives no memory back to the browser.
+// Makes each drawing with a new instance of the module, because an instance gives no memory back to the browser.
 onmessage = async ({ data: { module, input, words } }) => {
   let answer;
   try {

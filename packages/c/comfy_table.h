@@ -1,49 +1,54 @@
 /*
- * Tables drawn as text by the library comfy_table: from rows of texts, from cells with their own settings, and from CSV.
+ * Tables drawn as text by the library comfy_table. A table is drawn from rows of texts, from cells with their own settings, or
+ * from CSV.
  *
- * Begin with COMFY_ROWS_SETTINGS, COMFY_CELLS_SETTINGS and COMFY_COLUMN, and then change fields:
+ * Begin with one of the macros COMFY_ROWS_SETTINGS, COMFY_CELLS_SETTINGS and COMFY_COLUMN, and then change fields:
  *
  *     struct comfy_rows_settings settings = COMFY_ROWS_SETTINGS;
  *     settings.width = 80;
  *
- * A struct of zeros isn't the default: it asks for no row, and a width of 0. The comment of each field says what 0 means. Whole
- * programs are in share/doc/comfy_table/examples.
+ * A struct of zeros isn't the default: its limit of 0 draws no row, and its width is 0. The comment of each field says what 0
+ * means. Whole programs are in share/doc/comfy_table/examples.
  *
  * It is proved of each function:
- *  - It returns only results that its comment lists, each only for the reason that is given there. The one exception is
- *    COMFY_OUT_OF_MEMORY, whose reason isn't proved.
- *  - The drawing, the message about an input, *needed and the bytes that stay unchanged are as its comment says.
+ *  - It returns only results that its comment lists, and each of them only for the reason that the comment gives. The one
+ *    exception is COMFY_OUT_OF_MEMORY, whose reason isn't proved.
+ *  - Its comment describes the drawing, the message about an input, *needed and the bytes that stay unchanged. The function does
+ *    what this description says.
  *  - It splits texts by their lengths, and arguments at zero bytes. It uses each text and each argument as its comment says.
  *  - The lines that comfy_cells_draw writes keep all promises on a table's lines in share/doc/comfy_table/PROVED.md. With
- *    COMFY_FORM_TRIMMED this holds before the white space at the ends of lines is removed, so they aren't equally wide.
- *  - The table that comfy_rows_draw writes keeps all promises on rows there: no text is lost, edges are straight, and a width
- *    holds, under the conditions of that page. This is proved if looks and heights are empty, and columns have no other settings
- *    than COMFY_COLUMN_LEFT, COMFY_COLUMN_RIGHT and COMFY_COLUMN_HIDDEN. With looks, heights or other settings of columns, the
- *    lines before the count of rows keep all promises on a table's lines, as those of comfy_cells_draw do.
- *  - A call returns. It reads and writes only its own memory and that which its arguments give it.
+ *    COMFY_FORM_TRIMMED they keep the promises before the white space at their ends is removed. After that they may differ in
+ *    width.
+ *  - The table that comfy_rows_draw writes keeps all promises on rows in PROVED.md. For example, no text is lost, edges are
+ *    straight, and the table isn't wider than its width, under the conditions of that page. This is proved if looks and heights
+ *    are empty, and if columns have no other settings than COMFY_COLUMN_LEFT, COMFY_COLUMN_RIGHT and COMFY_COLUMN_HIDDEN. With
+ *    looks, heights or other settings of columns, the lines of the table keep all promises on a table's lines, as those of
+ *    comfy_cells_draw do. A line below the table that counts the rows, such as "2 of 3 rows", isn't one of these lines.
+ *  - Each call ends. It reads and writes only its own memory, and the memory that its arguments give it.
  *
  * Not proved, but tested:
  *  - COMFY_OUT_OF_MEMORY is returned only after malloc or realloc returned null.
- *  - No memory is kept after a call, and several threads may call at once.
- *  - A null pointer means no bytes.
- *  - Settings are checked before lengths, counts, looks and heights. That texts are checked last is proved.
- *  - The words of csvtable's messages about arguments. It is proved that these messages have no control character except line
- *    feeds.
- *  - The functions of this header that allocate memory.
+ *  - A call frees all memory that it allocated. Several threads may call at once.
+ *  - A null pointer with length 0 means no bytes.
+ *  - Settings are checked before lengths, counts, looks and heights. It is proved that texts are checked last.
+ *  - csvtable's messages about arguments have the right words. It is proved that these messages have no control character except
+ *    line feeds.
+ *  - The functions of this header that allocate memory do what their comment says.
  *
- * The caller has to ensure, because no function checks it:
- *  - Each pointer points to the number of bytes, numbers or structs that its length gives, settings to a struct, and needed to a
- *    size_t. A pointer with length 0 isn't read or written, and may be null. settings and needed may not be null.
- *  - These objects don't overlap. During the call nothing else writes them, or reads output and *needed.
- *  - malloc, realloc and free belong to one allocator. They align a block to each power of two up to 16 that divides its size, as
- *    those of C libraries do.
+ * The caller has to ensure the following, because no function checks it:
+ *  - Each pointer with a length points to that number of bytes, numbers or structs. If the length is 0, the pointer isn't used,
+ *    and may be null. settings points to a struct, and needed to a size_t. Neither of these two may be null.
+ *  - The memory of one argument doesn't overlap that of another. During the call nothing else writes to this memory. Nothing else
+ *    reads output and *needed.
+ *  - malloc, realloc and free belong to one allocator. A block whose size is a multiple of 2, 4, 8 or 16 is aligned to that number
+ *    of bytes. The allocators of C libraries do this.
  *  - No call comes from a signal handler, or from the forked child of a process with threads.
  *
- * Lengths are in bytes. The bytes written to output are UTF-8. Each line ends with a line feed, unless a comment says otherwise,
- * and no zero byte follows.
+ * Lengths of texts, input, arguments and output are in bytes. Other lengths are numbers of structs or of size_t. The bytes written
+ * to output are UTF-8. Each line ends with a line feed, unless a comment says otherwise. No zero byte follows the last line.
  *
- * Link libcomfy_c.a, and after it liblibc_c.a, through which it allocates memory. For Linux on x86-64 the second file is one of the
- * Rattle toolchain; share/doc/comfy_table/PROVED.md names its source for other systems.
+ * Link libcomfy_c.a, and after it liblibc_c.a, which it calls to allocate memory. For Linux on x86-64, liblibc_c.a is a file of
+ * the Rattle toolchain. share/doc/comfy_table/PROVED.md names its source for other systems.
  */
 #ifndef COMFY_TABLE_H
 #define COMFY_TABLE_H
@@ -69,8 +74,9 @@ extern "C" {
  *   COMFY_SETTINGS_REFUSED  settings or arguments describe no table
  *   COMFY_LENGTHS_REFUSED   lengths don't add up
  *
- * With COMFY_DRAWN, the bytes of output after the drawing are unchanged. With any other result, all bytes of output are
- * unchanged. *needed is only changed with the first two. comfy_csv_draw writes more with two results, as its comment says.
+ * With COMFY_DRAWN, the bytes of output after the drawing are unchanged. With any other result, all bytes of output are unchanged.
+ * *needed is changed only with COMFY_DRAWN and COMFY_ROOM_TOO_SMALL. comfy_csv_draw differs with COMFY_INPUT_REFUSED and
+ * COMFY_SETTINGS_REFUSED, as its comment says.
  */
 enum {
     COMFY_DRAWN,
@@ -81,7 +87,8 @@ enum {
     COMFY_LENGTHS_REFUSED
 };
 
-/* The presets for the frame, and after them the frame of csvtable: COMFY_UTF8_FULL with round corners. */
+/* The presets, which are frames that are ready to use. The last one, COMFY_ROUNDED, is csvtable's frame: COMFY_UTF8_FULL with
+ * round corners. */
 enum {
     COMFY_ASCII_FULL,
     COMFY_ASCII_FULL_CONDENSED,
@@ -99,14 +106,14 @@ enum {
     COMFY_ROUNDED
 };
 
-/* The style whose lines are in the field `frame` of the settings. */
+/* The style for a frame of your own, which is in the field `frame` of the settings. */
 #define COMFY_OWN_STYLE UINT32_MAX
 
-/* A field for a character has its code point. 0 means no character, and COMFY_NUL means U+0000. A number that is no code point of
- * a character also means none. */
+/* A field for a character holds the character's code point. 0 means no character, and COMFY_NUL means U+0000. Any other number
+ * that isn't the code point of a character means no character. */
 #define COMFY_NUL 0x110000
 
-/* The characters of a horizontal line of the frame. */
+/* The characters of a horizontal line of the frame: at the left end, along each column, between columns, and at the right end. */
 struct comfy_line {
     uint32_t left;
     uint32_t fill;
@@ -114,7 +121,7 @@ struct comfy_line {
     uint32_t right;
 };
 
-/* The characters at the edges and between the columns of a line of texts. */
+/* The vertical borders of the lines that hold texts: at the left, between two columns, and at the right. */
 struct comfy_content_line {
     uint32_t left;
     uint32_t junction;
@@ -122,11 +129,15 @@ struct comfy_content_line {
 };
 
 /*
- * A frame of your own. A border line or a separator is drawn if it has a character. A border at the left or right, or a line
- * between columns, is drawn if one of the six lines has a character for it. A space is drawn for a missing character.
+ * A frame of your own. top_border is above the table, and bottom_border below it. header_separator is below the header, and
+ * row_separator between two rows. header_lines and content_lines are the lines of texts in the header and in rows.
  *
- * The promises on the lines of rows hold for such a frame on two conditions: each of its characters takes one terminal column,
- * and none is a control character or changes the direction of text.
+ * Each of the four horizontal lines is drawn if it has a character. Each of the three vertical borders, at the left, between
+ * columns and at the right, is drawn if at least one of the six lines has a character for it. A space is drawn for a missing
+ * character.
+ *
+ * The promises on the lines of rows hold for such a frame on two conditions. Each of its characters takes one terminal column.
+ * None of them is a control character, or changes the direction of text.
  */
 struct comfy_frame {
     struct comfy_line top_border;
@@ -141,18 +152,20 @@ struct comfy_frame {
 #define COMFY_NO_FRAME \
     {{0, 0, 0, 0}, {0, 0, 0}, {0, 0, 0, 0}, {0, 0, 0}, {0, 0, 0, 0}, {0, 0, 0, 0}}
 
-/* No width. Each width above 65535 means the same. A width of 0 gives the narrowest table that the columns allow. */
+/* No width. Each width above 65535 also means no width. A width of 0 gives the narrowest table that the columns allow. */
 #define COMFY_NO_WIDTH UINT32_MAX
 
 /* ---- looks of texts */
 
-/* The alignment of a text. Any other number means COMFY_ALIGNED_BY_COLUMN. */
+/* The alignment of a text. COMFY_ALIGNED_BY_COLUMN is the alignment of its column. Any other number means COMFY_ALIGNED_BY_COLUMN
+ * too. */
 enum { COMFY_ALIGNED_BY_COLUMN, COMFY_ALIGNED_LEFT, COMFY_ALIGNED_RIGHT, COMFY_ALIGNED_CENTER };
 
-/* The kind of a colour: none, the terminal's default, one of 256, or red, green and blue. Any other number means none. */
+/* The kind of a colour: no colour, the terminal's default colour, one of 256 numbered colours, or a colour by its parts of red,
+ * green and blue. Any number that isn't listed means no colour. */
 enum { COMFY_COLOR_NONE, COMFY_COLOR_TERMINAL, COMFY_COLOR_NUMBERED, COMFY_COLOR_BY_PARTS };
 
-/* The first 16 of the 256 colours. */
+/* The numbers of the first 16 of the 256 colours. */
 enum {
     COMFY_BLACK,
     COMFY_DARK_RED,
@@ -174,13 +187,13 @@ enum {
 
 struct comfy_color {
     uint8_t kind;   /* COMFY_COLOR_.. */
-    uint8_t number; /* the number of COMFY_COLOR_NUMBERED */
+    uint8_t number; /* for COMFY_COLOR_NUMBERED: its number */
     uint8_t red;
     uint8_t green;
     uint8_t blue;
 };
 
-/* Bits of attributes. They are written in this order. The four highest bits have no effect. */
+/* The attributes of a text, one bit for each. Attributes are written in this order. The four highest bits have no effect. */
 enum {
     COMFY_ATTRIBUTE_RESET = 1 << 0,
     COMFY_ATTRIBUTE_BOLD = 1 << 1,
@@ -212,7 +225,7 @@ enum {
     COMFY_ATTRIBUTE_NOT_OVERLINED = 1 << 27
 };
 
-/* The look of a text. Each 0 means that a setting isn't set. */
+/* The look of a text. A field or a colour of zeros means that this setting isn't set. */
 struct comfy_look {
     uint32_t alignment;  /* COMFY_ALIGNED_.. */
     uint32_t attributes; /* COMFY_ATTRIBUTE_.., combined by | */
@@ -222,81 +235,91 @@ struct comfy_look {
 
 /* ---- rows of texts */
 
-/* No limit. In settings of rows a limit of 0 draws no row, and a height of 0 counts as 1. */
+/* No limit. In struct comfy_rows_settings, limit = 0 draws no row, and max_height = 0 counts as 1. */
 #define COMFY_NO_LIMIT SIZE_MAX
 
-/* The condition for the style's lines between rows: always, if a drawn row has more than one line, or never. */
+/* The condition for drawing the style's lines between rows: always, only if a drawn row has more than one line, or never. */
 enum { COMFY_LINES_EVERYWHERE, COMFY_LINES_WHERE_NEEDED, COMFY_LINES_NOWHERE };
 
-/* The condition for drawing each row as a table of its own, of names and texts: never, if the width has no room for all columns,
- * or always. */
+/* The condition for expanding rows: never, only if the width has no room for all columns, or always. Each expanded row is drawn as
+ * a table of its own. In that table each line has the name of a column and the row's text in that column. */
 enum { COMFY_EXPANDED_NEVER, COMFY_EXPANDED_AUTO, COMFY_EXPANDED_ALWAYS };
 
-/* The side of a column's texts: right for a column of numbers and left for any other, left, right, not drawn, or in the middle. */
+/* The side of a column's texts. With COMFY_COLUMN_BY_CONTENTS, a column of numbers has its texts at the right, and any other
+ * column at the left. With COMFY_COLUMN_HIDDEN the column isn't drawn. */
 enum { COMFY_COLUMN_BY_CONTENTS, COMFY_COLUMN_LEFT, COMFY_COLUMN_RIGHT, COMFY_COLUMN_HIDDEN, COMFY_COLUMN_CENTER };
 
 /*
- * A column of rows. Widths are in terminal columns, without paddings, and 0 means no limit. Texts that are wider than the greatest
- * width are wrapped. If the greatest width is below the least one, the least one counts.
+ * A column of rows. Widths are in terminal columns, without paddings. A width of 0 means no limit. Texts that are wider than the
+ * greatest width are wrapped. If the greatest width is below the least width, the least width counts.
  *
- * COMFY_PLAIN_COLUMN is a column without settings.
+ * COMFY_PLAIN_COLUMN is a column whose settings are unset. Its paddings are 1.
  */
 struct comfy_rows_column {
     uint16_t left_padding;  /* the number of free terminal columns at the left of texts */
-    uint16_t right_padding; /* the number at the right */
+    uint16_t right_padding; /* the number of free terminal columns at the right of texts */
     uint32_t side;          /* COMFY_COLUMN_.. */
-    uint16_t least;         /* the least width of texts */
-    uint16_t greatest;      /* the greatest width of texts */
+    uint16_t least;         /* the least width of texts, in terminal columns; 0 sets none */
+    uint16_t greatest;      /* the greatest width of texts, in terminal columns; 0 sets none */
 };
 
 #define COMFY_PLAIN_COLUMN {1, 1, COMFY_COLUMN_BY_CONTENTS, 0, 0}
 
-/* The settings of a table of rows. A flag is set if it isn't 0. COMFY_ROWS_SETTINGS are those of csvtable without arguments. */
+/* The settings of a table of rows. A flag is set if it isn't 0. COMFY_ROWS_SETTINGS has the settings of csvtable without
+ * arguments. */
 struct comfy_rows_settings {
-    size_t max_height;        /* the most lines of a row below the header, 0 counts as 1; or COMFY_NO_LIMIT */
-    size_t limit;             /* the most rows to draw, 0 draws none; or COMFY_NO_LIMIT. A line below says if there are more */
-    uint32_t style;           /* a preset, 0 is COMFY_ASCII_FULL; COMFY_ROUNDED; or COMFY_OWN_STYLE */
-    uint32_t width;           /* in terminal columns, 0 is the narrowest; or COMFY_NO_WIDTH */
-    uint32_t fills_width;     /* a flag: the table is as wide as the width */
-    uint32_t row_lines;       /* COMFY_LINES_.., 0 draws them everywhere */
-    uint32_t expansion;       /* COMFY_EXPANDED_.., 0 expands no row */
+    size_t max_height;        /* the most lines that are drawn of a row; 0 counts as 1; or COMFY_NO_LIMIT */
+    size_t limit;             /* the most rows to draw below the header; 0 draws none; or COMFY_NO_LIMIT */
+    uint32_t style;           /* a preset, COMFY_ROUNDED or COMFY_OWN_STYLE; 0 is COMFY_ASCII_FULL */
+    uint32_t width;           /* the table's greatest width in terminal columns, or COMFY_NO_WIDTH; 0 gives the narrowest table */
+    uint32_t fills_width;     /* a flag: the table is exactly as wide as width */
+    uint32_t row_lines;       /* COMFY_LINES_..; 0 draws lines between all rows */
+    uint32_t expansion;       /* COMFY_EXPANDED_..; 0 expands no row */
     uint32_t has_header;      /* a flag: the first row is the header */
     uint32_t has_bold_header; /* a flag: the header is bold */
-    uint32_t is_numbered;     /* a flag: a first column has the numbers of the rows */
-    uint32_t aligns_decimals; /* a flag: decimal points of a column of numbers are below each other */
-    uint32_t has_sequences;   /* a flag: SGR sequences in texts are kept, and take no columns */
-    uint32_t is_markdown;     /* a flag: the table is for Markdown, whatever else is set here */
-    struct comfy_frame frame; /* the lines of COMFY_OWN_STYLE, which no other style reads */
+    uint32_t is_numbered;     /* a flag: a column before the others has the numbers of the rows */
+    uint32_t aligns_decimals; /* a flag: in a column of numbers, decimal points are below each other */
+    uint32_t has_sequences;   /* a flag: sequences of colours and attributes (SGR) in texts are kept, and take no columns */
+    uint32_t is_markdown;     /* a flag: the table is for Markdown, whatever the other fields are */
+    struct comfy_frame frame; /* the frame that COMFY_OWN_STYLE draws; any other style ignores it */
 };
 
-/* All rows, no width, round corners, lines between rows if one of them has several lines, and a header. */
+/* These settings draw all rows, without a width, with round corners and with a header. Lines between rows are drawn if a drawn row
+ * has several lines. Decimal points are below each other. Rows are expanded only if a width that is set later has no room for all
+ * columns. */
 #define COMFY_ROWS_SETTINGS \
     {COMFY_NO_LIMIT, COMFY_NO_LIMIT, COMFY_ROUNDED, COMFY_NO_WIDTH, 0, COMFY_LINES_WHERE_NEEDED, COMFY_EXPANDED_AUTO, \
      1, 0, 0, 1, 0, 0, COMFY_NO_FRAME}
 
 /*
- * Draws a table of rows into the caller's buffer, as csvtable with the option --count draws records of these texts into a pipe.
- * Lines that count them say rows: "row 2 of 3" above an expanded row, and "2 of 3 rows" below those of a limit.
+ * Draws a table of rows into the caller's buffer. csvtable with the option --count draws records of these texts into a pipe in the
+ * same way. There is one difference: lines with a count have the word "row". Above an expanded row there is, for example, "row 2
+ * of 3". If limit leaves out rows, "2 of 3 rows" is below the table.
  *
- * texts has the texts of all cells in order, without anything between them. lengths has the length of each text in bytes, and
- * counts the number of cells of each row, which may differ. columns has a struct for each column, or for the first ones; the
- * others are as COMFY_PLAIN_COLUMN.
+ * texts has the texts of all cells in order, without anything between them. lengths has the length of each text in bytes. counts
+ * has the number of cells of each row. Rows may have different numbers of cells. columns has a struct for each column, or for the
+ * first columns only. The other columns are as COMFY_PLAIN_COLUMN.
  *
- * looks is empty, or has the look of each text. A text's alignment replaces that of its column, and its attributes come after bold
- * of a bold header. heights is empty, or has the most lines of each row. It replaces max_height, unless it is 0 or COMFY_NO_LIMIT.
- * The header has no limit.
+ * looks is empty, or has the look of each text. A text's alignment replaces the alignment of its column. Colours and attributes of
+ * texts are always written. In a bold header, the attributes of a text are written after bold.
  *
- * A table for Markdown, and rows that are or may be expanded, can't have looks or heights. Their columns can only have
- * COMFY_COLUMN_LEFT, COMFY_COLUMN_RIGHT and COMFY_COLUMN_HIDDEN.
+ * heights is empty, or has a number for each row and for the header. The number is the most lines that are drawn of the row, in
+ * place of max_height. If it is 0 or COMFY_NO_LIMIT, max_height counts. The header has no limit, whatever its number is.
+ *
+ * If is_markdown is set, or if expansion isn't COMFY_EXPANDED_NEVER, there can't be looks or heights. The only settings of columns
+ * are then COMFY_COLUMN_LEFT, COMFY_COLUMN_RIGHT and COMFY_COLUMN_HIDDEN.
  *
  * The first of these results whose reason holds is returned:
  *
- *   COMFY_SETTINGS_REFUSED  a setting or a column's side is none of those above, or there are looks, heights or columns that such
- *                           a table or such rows can't have
- *   COMFY_LENGTHS_REFUSED   the sum of lengths isn't texts_length, the sum of counts isn't lengths_length, looks isn't empty and
- *                           doesn't have one for each text, or heights isn't empty and doesn't have one for each row
+ *   COMFY_SETTINGS_REFUSED  a setting or a column's side is none of those above,
+ *                           or there are looks, heights or settings of columns that Markdown or expansion doesn't allow
+ *   COMFY_LENGTHS_REFUSED   the sum of lengths isn't texts_length,
+ *                           or the sum of counts isn't lengths_length,
+ *                           or looks isn't empty, and hasn't one for each text,
+ *                           or heights isn't empty, and hasn't one for the header and each row
  *   COMFY_INPUT_REFUSED     a text isn't UTF-8
- *   COMFY_SETTINGS_REFUSED  a column that no row has isn't as COMFY_PLAIN_COLUMN, or no column is drawn
+ *   COMFY_SETTINGS_REFUSED  a column that no row has isn't as COMFY_PLAIN_COLUMN,
+ *                           or there are rows, but no column is drawn
  */
 uint32_t comfy_rows_draw(const uint8_t *texts, size_t texts_length, const size_t *lengths, size_t lengths_length,
                          const size_t *counts, size_t counts_length, const struct comfy_look *looks, size_t looks_length,
@@ -306,7 +329,7 @@ uint32_t comfy_rows_draw(const uint8_t *texts, size_t texts_length, const size_t
 
 /* ---- the refused setting */
 
-/* The reason for COMFY_SETTINGS_REFUSED, unless it is the second one of comfy_rows_draw. */
+/* The reason for COMFY_SETTINGS_REFUSED, except for the second entry with this name at comfy_rows_draw. */
 enum {
     COMFY_NONE_REFUSED,
     COMFY_STYLE_REFUSED,       /* style is none of those above */
@@ -319,8 +342,8 @@ enum {
 };
 
 /*
- * Returns the first setting, in the order above, that comfy_rows_draw refuses for all texts. With COMFY_NONE_REFUSED,
- * comfy_rows_draw can still refuse a column that no row has, or a table in which no column is drawn.
+ * Returns the first setting, in the order above, that comfy_rows_draw refuses whatever the texts are. After COMFY_NONE_REFUSED,
+ * comfy_rows_draw can still refuse settings of a column that no row has, or a table in which no column is drawn.
  */
 uint32_t comfy_rows_refused(const struct comfy_look *looks, size_t looks_length, const size_t *heights, size_t heights_length,
                             const struct comfy_rows_column *columns, size_t columns_length,
@@ -328,71 +351,72 @@ uint32_t comfy_rows_refused(const struct comfy_look *looks, size_t looks_length,
 
 /* ---- cells with their own settings */
 
-/* In the structs below, 0 means that a setting isn't set, except in widths and paddings, which are 0 then. */
+/* In the structs below, 0 means that a setting isn't set. Only widths and paddings are 0 terminal columns then. */
 
 struct comfy_cell {
-    size_t length;       /* the bytes of the text; line feeds separate its lines */
-    uint32_t delimiter;  /* the character at which long lines may break, in place of the column's */
+    size_t length;       /* the number of bytes of the text; line feeds separate its lines */
+    uint32_t delimiter;  /* the character at which long lines may break; 0 means that of the column */
     struct comfy_look look;
 };
 
 struct comfy_row {
     size_t cells;      /* the number of cells */
-    size_t max_height; /* the most lines; 0 and COMFY_NO_LIMIT mean no limit */
+    size_t max_height; /* the most lines that are drawn; 0 and COMFY_NO_LIMIT mean no limit */
 };
 
 /*
- * The constraint on a column's width. The width includes the paddings. The constraints are: none, not drawn, as wide as the widest
- * text, exactly a width, at least a width, at most a width, and both a least and a greatest width. Any other number means none.
+ * The constraint on a column's width. The width includes the paddings. Any other number means COMFY_CONSTRAINT_NONE.
  */
 enum {
     COMFY_CONSTRAINT_NONE,
-    COMFY_CONSTRAINT_HIDDEN,
-    COMFY_CONSTRAINT_CONTENT_WIDTH,
-    COMFY_CONSTRAINT_ABSOLUTE,
-    COMFY_CONSTRAINT_LOWER_BOUNDARY,
-    COMFY_CONSTRAINT_UPPER_BOUNDARY,
-    COMFY_CONSTRAINT_BOUNDARIES
+    COMFY_CONSTRAINT_HIDDEN,         /* the column isn't drawn */
+    COMFY_CONSTRAINT_CONTENT_WIDTH,  /* it is as wide as its widest text */
+    COMFY_CONSTRAINT_ABSOLUTE,       /* it has a given width */
+    COMFY_CONSTRAINT_LOWER_BOUNDARY, /* it has at least a given width */
+    COMFY_CONSTRAINT_UPPER_BOUNDARY, /* it has at most a given width */
+    COMFY_CONSTRAINT_BOUNDARIES      /* it has a least and a greatest width */
 };
 
 struct comfy_width {
-    uint16_t is_percentage; /* a flag: value is in percent of the table's width without borders, and not in terminal columns */
+    uint16_t is_percentage; /* a flag: value is a percentage of the table's width without borders; 0 means terminal columns */
     uint16_t value;
 };
 
 struct comfy_column {
     uint16_t left_padding;    /* the number of free terminal columns at the left of texts */
-    uint16_t right_padding;   /* the number at the right */
-    uint32_t delimiter;       /* the character at which long lines may break, in place of the table's */
+    uint16_t right_padding;   /* the number of free terminal columns at the right of texts */
+    uint32_t delimiter;       /* the character at which long lines may break; 0 means that of the table */
     uint32_t alignment;       /* COMFY_ALIGNED_..; COMFY_ALIGNED_BY_COLUMN means left */
     uint32_t constraint;      /* COMFY_CONSTRAINT_.. */
-    struct comfy_width width; /* the constraint's width; the least width of COMFY_CONSTRAINT_BOUNDARIES */
-    struct comfy_width upper; /* the greatest width of COMFY_CONSTRAINT_BOUNDARIES */
+    struct comfy_width width; /* the width of the constraint; for COMFY_CONSTRAINT_BOUNDARIES the least width */
+    struct comfy_width upper; /* for COMFY_CONSTRAINT_BOUNDARIES the greatest width */
 };
 
-/* A new column of comfy-table, with paddings of 1. */
+/* A column as a new table of comfy-table has it, with paddings of 1. */
 #define COMFY_COLUMN {1, 1, 0, COMFY_ALIGNED_BY_COLUMN, COMFY_CONSTRAINT_NONE, {0, 0}, {0, 0}}
 
-/* The form of the output: the lines, the trimmed lines, or the widths of contents. Trimmed lines have no white space at their
- * ends, and no line feed after the last one. The widths are those of each column's widest text, in decimal, each with a line
- * feed after it. */
+/* The form of the output: the lines of the table, the trimmed lines, or the widths of contents. Trimmed lines have no white space
+ * at their ends, and there is no line feed after the last line. The widths of contents are a number for each column: the width of
+ * its widest text in terminal columns, in decimal, with a line feed after it. */
 enum { COMFY_FORM_LINES, COMFY_FORM_TRIMMED, COMFY_FORM_CONTENT_WIDTHS };
 
-/* The rule for the widths of columns: only by their texts, within the table's width, or filling the table's width. */
+/* The rule by which columns get their widths. COMFY_DISABLED makes them as wide as their texts. COMFY_DYNAMIC keeps the table
+ * within its width. COMFY_DYNAMIC_FULL_WIDTH also widens a narrower table to its width. */
 enum { COMFY_DISABLED, COMFY_DYNAMIC, COMFY_DYNAMIC_FULL_WIDTH };
 
-/* The settings of a table of cells. A flag is set if it isn't 0. COMFY_CELLS_SETTINGS are those of a new table with a header. */
+/* The settings of a table of cells. A flag is set if it isn't 0. COMFY_CELLS_SETTINGS has the settings of a new table of
+ * comfy-table that has a header. With COMFY_DISABLED no text is wrapped to fit the width. */
 struct comfy_cells_settings {
-    uint32_t form;            /* COMFY_FORM_.., 0 writes lines */
-    uint32_t style;           /* a preset, 0 is COMFY_ASCII_FULL; COMFY_ROUNDED; or COMFY_OWN_STYLE */
-    uint32_t arrangement;     /* COMFY_DISABLED, which is 0, COMFY_DYNAMIC or COMFY_DYNAMIC_FULL_WIDTH */
-    uint32_t width;           /* in terminal columns, 0 is the narrowest; or COMFY_NO_WIDTH. COMFY_DISABLED wraps no text for it */
-    uint32_t delimiter;       /* the character at which long lines may break, 0 is a space */
+    uint32_t form;            /* COMFY_FORM_..; 0 writes the lines of the table */
+    uint32_t style;           /* a preset, COMFY_ROUNDED or COMFY_OWN_STYLE; 0 is COMFY_ASCII_FULL */
+    uint32_t arrangement;     /* COMFY_DISABLED, COMFY_DYNAMIC or COMFY_DYNAMIC_FULL_WIDTH; 0 is COMFY_DISABLED */
+    uint32_t width;           /* the table's width in terminal columns, or COMFY_NO_WIDTH; 0 gives the narrowest table */
+    uint32_t delimiter;       /* the character at which long lines may break; 0 is a space */
     uint32_t has_header;      /* a flag: the first row is the header */
     uint32_t enforce_styling; /* a flag: colours and attributes are written */
-    uint32_t style_text_only; /* a flag: they are around texts, and not around the spaces beside them */
-    uint32_t custom_styling;  /* a flag: SGR sequences in texts take no columns */
-    struct comfy_frame frame; /* the lines of COMFY_OWN_STYLE, which no other style reads */
+    uint32_t style_text_only; /* a flag: they apply to texts, and not to the spaces beside them */
+    uint32_t custom_styling;  /* a flag: sequences of colours and attributes (SGR) in texts take no columns */
+    struct comfy_frame frame; /* the frame that COMFY_OWN_STYLE draws; any other style ignores it */
 };
 
 #define COMFY_CELLS_SETTINGS \
@@ -402,17 +426,20 @@ struct comfy_cells_settings {
  * Draws a table of cells, rows and columns into the caller's buffer, as comfy-table 8.0.1 does, except for the differences that
  * share/doc/comfy_table/DIFFERENCES.md lists.
  *
- * texts has the texts of all cells in order, without anything between them. cells has the length and the settings of each text,
- * rows the number of cells of each row, and columns the settings of each column. A cell without a column isn't drawn. indicator is
- * UTF-8. It ends the last line of a text that a row's max_height cuts. comfy-table's is "\xe2\x80\xa6".
+ * texts has the texts of all cells in order, without anything between them. cells has the length and the settings of each text.
+ * rows has the number of cells of each row, and its greatest height. columns has the settings of each column. A cell without a
+ * column isn't drawn. indicator is a text in UTF-8. It ends the last drawn line of a text that a row's max_height cuts. The
+ * indicator of comfy-table is "\xe2\x80\xa6".
  *
- * Texts are drawn unchanged: control characters and escape sequences in them reach the terminal. Without custom_styling, the
- * characters of a sequence take columns. Draw texts that you don't trust by comfy_rows_draw, which replaces both.
+ * Texts are drawn unchanged, so control characters and escape sequences in them reach the terminal. Without custom_styling, the
+ * characters of an escape sequence take columns. Draw texts that you don't trust by comfy_rows_draw, which replaces control
+ * characters and escape sequences.
  *
  * The first of these results whose reason holds is returned:
  *
  *   COMFY_SETTINGS_REFUSED  form, style or arrangement is none of those above
- *   COMFY_LENGTHS_REFUSED   the sum of the cells' lengths isn't texts_length, or that of the rows' cells isn't cells_length
+ *   COMFY_LENGTHS_REFUSED   the lengths of the cells don't add up to texts_length,
+ *                           or the numbers of cells of the rows don't add up to cells_length
  *   COMFY_INPUT_REFUSED     a text or the indicator isn't UTF-8
  */
 uint32_t comfy_cells_draw(const uint8_t *texts, size_t texts_length, const struct comfy_cell *cells, size_t cells_length,
@@ -426,18 +453,19 @@ uint32_t comfy_cells_refused(const struct comfy_cells_settings *settings);
 /* ---- CSV */
 
 /*
- * Draws a table of CSV into the caller's buffer, as the program csvtable does with these arguments and --count. The output is that
- * into a pipe, if neither COLUMNS nor NO_COLOR is set. `csvtable --help` lists the arguments.
+ * Draws a table of CSV into the caller's buffer. The program csvtable writes the same with these arguments and --count into a
+ * pipe, if neither of the environment variables COLUMNS and NO_COLOR is set. `csvtable --help` lists the arguments.
  *
- * arguments is UTF-8, and a zero byte ends each argument. It may be missing after the last one, so the end of a string in C
- * serves. With "-r\0price\0-w\0" "60" and its size, the column price is right-aligned, and the greatest width is 60 terminal
- * columns. No bytes mean no arguments.
+ * arguments is UTF-8, and a zero byte ends each argument. This byte may be missing after the last argument. For example, pass the
+ * string "-r\0price\0-w\0" "60" and its size. Then the column price is right-aligned, and the greatest width of the table is 60
+ * terminal columns. If arguments_length is 0, there are no arguments.
  *
  * No file is opened. A file name among the arguments names the input in messages. If it ends with .tsv or .tab, TABs may separate
  * fields.
  *
- * With COMFY_INPUT_REFUSED and COMFY_SETTINGS_REFUSED, *needed is the length of csvtable's message. It is written to output as a
- * drawing is, if output has room for all of it; otherwise output is unchanged. --help gives COMFY_SETTINGS_REFUSED too.
+ * With COMFY_INPUT_REFUSED and COMFY_SETTINGS_REFUSED, *needed is the length of csvtable's message in bytes. If output has room
+ * for the whole message, it is written there. Otherwise output is unchanged. --help gives COMFY_SETTINGS_REFUSED too, with the
+ * help as the message.
  */
 uint32_t comfy_csv_draw(const uint8_t *input, size_t input_length, const uint8_t *arguments, size_t arguments_length,
                         uint8_t *output, size_t output_length, size_t *needed);
@@ -445,8 +473,9 @@ uint32_t comfy_csv_draw(const uint8_t *input, size_t input_length, const uint8_t
 /* ---- drawings in allocated memory */
 
 /*
- * These draw as the functions above do, into allocated memory that the caller frees by free: the drawing, or csvtable's message,
- * and a zero byte after it. *result is the result of the function. The pointer is null if memory ran out or nothing was written.
+ * Each of these functions draws as the function above with a similar name. It returns the drawing, or csvtable's message, with a
+ * zero byte at its end. The memory for this text is allocated, and the caller frees it by free. *result becomes the result of the
+ * function above. A null pointer is returned if memory ran out, or if there is neither a drawing nor a message.
  */
 static inline char *comfy_rows_text(const uint8_t *texts, size_t texts_length, const size_t *lengths, size_t lengths_length,
                                     const size_t *counts, size_t counts_length, const struct comfy_look *looks,

@@ -1,9 +1,11 @@
 /*
- * Memory for the library on a target for which the Rattle toolchain has no liblibc_c.a. The proved code calls these functions.
+ * The functions by which the library allocates memory. This file replaces liblibc_c.a on a target for which the Rattle toolchain
+ * has no such file.
  *
- * Nothing proves that these functions do what the contracts of the toolchain's crate libc say. tools/make/targets.py compiles
- * this file to LLVM's form for Linux on x86-64 first, because the proved code takes both words of an answer in registers, as C
- * does there, on every target.
+ * It isn't proved that these functions do what the toolchain's crate libc promises of them.
+ *
+ * On every target, the proved code takes the two numbers of struct answer in registers, as C does on Linux for x86-64. So
+ * tools/make/targets.py first compiles this file to LLVM's intermediate code for Linux on x86-64.
  */
 typedef unsigned long long u64;
 
@@ -11,7 +13,7 @@ extern void *malloc(u64);
 extern void *realloc(void *, u64);
 extern void free(void *);
 
-/* A block and 1, or 0 and an address that nobody reads. */
+/* 1 and the address of a block, or 0 and an address that isn't used. */
 struct answer {
     u64 is_there;
     u64 address;
@@ -22,7 +24,8 @@ static struct answer answer_of(void *block) {
     return (struct answer){block != 0, (u64)(block ? block : &nothing)};
 }
 
-/* Sizes are in bytes. malloc aligns as much as the proved code asks, which is at most 16 bytes. */
+/* Sizes and alignments are in bytes. The proved code needs an alignment of at most 16 bytes, and malloc aligns each block to as
+ * many bytes as needed. */
 struct answer rattle_alloc(u64 size, u64 alignment) {
     return answer_of(malloc(size ? size : alignment));
 }

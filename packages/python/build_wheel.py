@@ -1,7 +1,9 @@
-"""Writes the package's wheel, with no other package and no network: a build backend of PEP 517, in the same folder.
+"""Writes the package's wheel. This is a build backend of PEP 517, in the same folder.
 
-setuptools would tag a wheel with a shared library for one version of Python. This library is called by ctypes, so that it
-serves each of them.
+It needs no other package and no network.
+
+setuptools would mark a wheel with a shared library as one for a single version of Python. Python calls this library by ctypes, so
+that one wheel serves each version.
 """
 
 import base64
@@ -17,7 +19,10 @@ _LIBRARIES = (".so", ".dylib", ".dll")
 
 
 def build_wheel(wheel_directory, config_settings=None, metadata_directory=None):
-    """Writes the wheel to a folder, and returns its name. tools/package.sh first puts the library, the pages and the licence there."""
+    """Writes the wheel to a folder, and returns its name.
+
+    Before this, tools/package.sh puts the library, the pages and the licence into the package's folder.
+    """
     project = tomllib.loads((_HERE / "pyproject.toml").read_text())["project"]
     name = f"{project['name']}-{project['version']}"
     files = _package(project["name"])
@@ -35,12 +40,15 @@ def build_wheel(wheel_directory, config_settings=None, metadata_directory=None):
 
 
 def build_sdist(sdist_directory, config_settings=None):
-    """There is none: the library is built by the Rattle toolchain, which no package index has."""
+    """Refuses to write a source package.
+
+    Only the Rattle toolchain can build the library, and no package index has this toolchain.
+    """
     raise RuntimeError("comfy_table_proved has wheels alone: building its library takes the Rattle toolchain")
 
 
 def _tag(library):
-    """The tag of the systems for which a shared library of these bytes is."""
+    """The tag of the systems on which the shared library with these bytes runs."""
     number = lambda at, size: int.from_bytes(library[at : at + size], "little")
     if library.startswith(b"MZ"):
         return "py3-none-win_amd64"
@@ -48,15 +56,15 @@ def _tag(library):
         return "py3-none-macosx_11_0_" + {0x0100000C: "arm64", 0x01000007: "x86_64"}[number(4, 4)]
     processor = {183: "aarch64", 62: "x86_64"}[number(18, 2)]
     versions = [(int(major), int(minor)) for major, minor in re.findall(rb"GLIBC_(\d+)\.(\d+)", library)]
-    # 2.17 is the oldest that installers know by this form. A library that names no version of glibc is for musl too, which was
-    # tried on x86_64.
+    # 2.17 is the oldest version of glibc that installers know in this form of a tag. A library that needs no version of glibc also
+    # runs with musl, which was tried on x86_64.
     major, minor = max(versions + [(2, 17)])
     is_for_musl = not versions and processor == "x86_64"
     return f"py3-none-manylinux_{major}_{minor}_{processor}" + (f".musllinux_1_2_{processor}" if is_for_musl else "")
 
 
 def _tags(tag):
-    """A header for each of the systems of a tag."""
+    """A header `Tag` for each of the systems in a tag."""
     python, abi, systems = tag.split("-")
     return [("Tag", f"{python}-{abi}-{system}") for system in systems.split(".")]
 

@@ -1,9 +1,10 @@
-//! Links the library. COMFY_C is the folder of its two files; a package has such a folder in `lib` for each target.
+//! Links the library, which is two files. If the environment variable COMFY_C is set, it names the folder of these files.
+//! Otherwise they are in the package's folder `lib`, which has a folder for each target.
 
 use std::env;
 use std::path::Path;
 
-/// The folders of `lib`. One for Linux is for glibc and musl.
+/// The folders of `lib`. The library for Linux serves programs with glibc and programs with musl.
 const TARGETS: [&str; 5] = ["linux-x86_64", "linux-aarch64", "macos-aarch64", "macos-x86_64", "windows-x86_64"];
 
 fn main() {
@@ -20,7 +21,7 @@ fn main() {
         let is_msvc = of("CARGO_CFG_TARGET_ENV") == "msvc";
         let file = if is_msvc { format!("{library}.lib") } else { format!("lib{library}.a") };
         println!("cargo::rerun-if-changed={folder}/{file}");
-        // `cargo check` and `cargo doc` need no library, so this is no error.
+        // `cargo check` and `cargo doc` need no library, so a missing file is only a warning.
         if !Path::new(&folder).join(&file).exists() {
             println!("cargo::warning=no {file} in {folder}; COMFY_C names the folder that has it, README.md says who makes it");
         }
@@ -29,7 +30,7 @@ fn main() {
     println!("cargo::rustc-link-search=native={folder}");
 }
 
-/// A variable that cargo sets, or nothing.
+/// The value of an environment variable that cargo sets, or an empty text if it isn't set.
 fn of(name: &str) -> String {
     env::var(name).unwrap_or_default()
 }

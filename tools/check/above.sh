@@ -1,6 +1,6 @@
 #!/bin/sh
 # Checks a crate, and then each crate above it, in the order of crates.txt. It stops at the first crate that isn't proved, and
-# names those that it didn't check. The status is 0 if all are proved, 1 if one isn't, and 2 if CRATE is wrong.
+# names the crates that it didn't check. The status is 0 if all are proved, 1 if one isn't, and 2 if CRATE is wrong.
 #
 #     tools/check/above.sh CRATE
 set -u

@@ -1,10 +1,11 @@
 #!/usr/bin/env python3
-"""Counts words that comments and pages avoid, because a plainer or clearer word is usually there.
+"""Counts words that comments and pages avoid, because there usually is a plainer or clearer word.
 
     tools/check/avoided.py           prints how many of 1,000 words they are, in each kind of file
     tools/check/avoided.py --list    prints each line that has one
 
-Names in backquotes and the blocks of pages don't count. tools/check/check_proved.py fails if a kind of file has more than LIMITS.
+Names in backquotes don't count, and neither do the code blocks of pages. tools/check/check_proved.py fails if a kind of file has
+more than LIMITS.
 """
 import ast
 import glob
@@ -17,7 +18,7 @@ from definitions import TOP, text_of
 
 AVOIDED = re.compile(r"\b(?:stands?|standing|behind|told|said|asked|so many|where)\b", re.I)
 WORD = re.compile(r"[A-Za-z][A-Za-z']*")
-# The kinds of files, each with its files and the greatest number of avoided words among 1,000.
+# The kinds of files, each with the patterns of its files' paths.
 KINDS = {
     "src": ["crates/*/src/**/*.rt"],
     "specs": ["crates/*/specs/**/*.antt"],
@@ -26,7 +27,7 @@ KINDS = {
     "pages": ["*.md", "docs/*.md", "crates/*/*.md", "packages/*/*.md"],
 }
 LIMITS = {"src": 1.5, "specs": 0.5, "packages": 0.1, "tools": 0.1, "pages": 1.6}
-# The comments of a language, by the ending of a file's name. Those of Python are found by its own parser.
+# Patterns for the comments of a language, by the ending of a file's name. Python's own parser finds the comments of Python.
 SLASHES = r"(?:^|(?<=\s))//[/!]?(.*)$"
 STARS = r"/\*(?s:(.*?))\*/"
 HASHES = r"(?:^|(?<=\s))#(.*)$"
@@ -38,17 +39,17 @@ COMMENTS = {
 
 
 def documented(tree):
-    """The lines of the parts of a Python program that can have a docstring, and their docstrings."""
+    """The docstrings of a Python program, each with the number of its line."""
     for node in ast.walk(tree):
         if isinstance(node, (ast.Module, ast.ClassDef, ast.FunctionDef)) and ast.get_docstring(node, clean=False):
             yield node.body[0].lineno, ast.get_docstring(node, clean=False)
 
 
 def comments_in(path, text):
-    """The comments of a file, each with its line. Those of a page are its paragraphs outside of blocks."""
+    """The comments of a file, each with the number of its line. The comments of a page are its lines outside of code blocks."""
     ending = path.split(".")[-1]
     if ending == "md":
-        # a block becomes its line feeds, so that later lines keep their numbers
+        # only the line feeds of a code block stay, so that later lines keep their numbers
         yield 1, re.sub(r"^ *```.*?^ *```", lambda block: "\n" * block[0].count("\n"), text, flags=re.M | re.S)
     if ending == "py":
         tokens = tokenize.generate_tokens(io.StringIO(text).readline)
@@ -60,7 +61,7 @@ def comments_in(path, text):
 
 
 def lines_of(kind):
-    """The lines of comments, or of pages, in files of a kind, each with its path and number, without names in backquotes."""
+    """The lines of comments or pages in a kind of files, without names in backquotes. Each has its path and its number."""
     for path in sorted({it for pattern in KINDS[kind] for it in glob.glob(pattern, root_dir=TOP, recursive=True)}):
         if path.endswith(".md") and kind != "pages" or path.split(".")[-1] not in ("md", "py", *COMMENTS):
             continue
@@ -70,7 +71,7 @@ def lines_of(kind):
 
 
 def densities():
-    """For each kind of files, how many of 1,000 words are avoided ones."""
+    """For each kind of files, how many of 1,000 words are avoided words."""
     found = {}
     for kind in KINDS:
         lines = [line for _, _, line in lines_of(kind)]
@@ -80,7 +81,7 @@ def densities():
 
 
 def too_many():
-    """A line for each kind of files with more avoided words than its limit."""
+    """A line for each kind of files that has more avoided words than its limit."""
     return [
         f"{kind} have {density:.2f} of the words that tools/check/avoided.py lists in 1,000 words, more than {LIMITS[kind]}"
         for kind, density in densities().items()

@@ -1,25 +1,27 @@
 #!/usr/bin/env python3
-"""Compares the pages with the code. It prints each difference, or "all agree", and ends with status 1 if there is one. The line
-before says how many of 1,000 words are ones that the house avoids.
+"""Compares the pages with the code. It prints each difference, or "all agree". The status is 1 if there is a difference. Before
+"all agree", a line says how many of 1,000 words are words that this project avoids.
 
     tools/check/check_proved.py
 
-- docs/PROVED.md has the counts that tools/check/what_is_believed.py computes. It names all laws and promises, and nothing else.
+- docs/PROVED.md has the counts that tools/check/what_is_believed.py computes. Its tables name all laws and promises, and nothing
+  else.
 - comfy_table re-exports all laws of comfy_parts.
-- Each law and each promise has a trial with a value for which its conclusion is false. The line before the trial is
+- Each law and each promise has a trial with a value that makes its conclusion false. The line before the trial is
   `-- false: CRATE::laws::NAME`.
-- README.md shows the output of a stored run. Its figures, and one of docs/DECISIONS.md, are those of docs/PERFORMANCE.md.
-- Each clause and signature that a CALLING.md quotes is in the source of its library, of another library on that page, or of a
-  caller. Each name in backquotes is in the sources.
+- README.md shows the output of a stored run. Its figures equal those in docs/PERFORMANCE.md, and so does a figure of
+  docs/DECISIONS.md.
+- Each clause and each signature that a CALLING.md quotes is in the sources. They are the sources of its library, of another
+  library on that page, or of a caller. Each name in backquotes on the page is in the sources too.
 - docs/DIFFERENCES.md has each name that only the original or only this library has (tools/check/new_items.py).
 - Each mutation changes a function that exists.
 - Each definition of specs/ and proofs/ is used, and each private function is called (tools/check/reach.py).
 - The first comment of each file in specs/ of a library ends with the source of its rules.
-- Comments and pages don't have more of the words that the house avoids than before (tools/check/avoided.py).
+- Comments and pages have no more of the avoided words than tools/check/avoided.py allows.
 - No line of src/ and specs/ has more than 100 characters, except `use` lines and `#[tactic(..)]`, which `rt fmt` doesn't break.
-- The crate of documented examples agrees with the doc comments, and each other example has a test (tools/make/doc_examples.py).
-- csvtable's man page and completions agree with its options (tools/make/manual.py).
-- Each place of the version has that of CHANGELOG.md.
+- The crate example_docs agrees with the doc comments. Each example that it doesn't have is in a test (tools/make/doc_examples.py).
+- csvtable's man page and completions agree with the program's options (tools/make/manual.py).
+- Each place that has the version agrees with CHANGELOG.md.
 - The gallery and the pictures agree with the stored outputs (tools/make/gallery.py, pictures.py). Each link of a page leads to a file or a heading.
 """
 import glob
@@ -42,14 +44,14 @@ from pages import dead_links
 from pictures import wrong_pictures
 
 LAWS_ALONE = ["cluster_width"]  # libraries without code
-LAWS_ELSEWHERE = {("comfy_parts", "presets_are_as_tabled")}  # laws outside of `laws`, which need no trial
-LAWS_IN_PROSE = ["cluster_width", "promises"]  # crates with laws that PROVED names outside of its tables
+LAWS_ELSEWHERE = {("comfy_parts", "presets_are_as_tabled")}  # laws outside of a module `laws`; they need no trial
+LAWS_IN_PROSE = ["cluster_width", "promises"]  # crates whose laws PROVED names outside of its tables
 COUNTS = "no one two three four five six seven eight nine ten eleven twelve".split()
 CALLERS = ["test_callers", "csv_promises"]
 PAGE_WITH = {"comfy_run": ["devices"], "csv_tables": ["csv_records", "csv_command"]}  # further crates on a CALLING.md
 STORED = ["csvtable/stdout"]
 LINKED = ["README.md", "CHANGELOG.md", "CONTRIBUTING.md", "SECURITY.md", "docs/*.md", "crates/*/CALLING.md", "crates/case_files/FORMAT.md", "packages/*/README.md"]
-# The places of the version, beside the newest heading of CHANGELOG.md.
+# The places that have the version. The newest heading of CHANGELOG.md has it too.
 VERSIONS = {
     "crates/csv_command/src/options.rt": r'\.version\("(.*)"\)',
     "docs/INSTALL.md": r"(?:csvtable|comfy_table|comfy_table_proved)[-_](\d+\.\d+\.\d+)",
@@ -86,7 +88,7 @@ def laws():
 
 
 def wrong_trials():
-    """The laws without a trial in which they are false, and the names in trials that aren't laws."""
+    """The laws without a trial in which they are false, and the names in lines `-- false:` that aren't laws."""
     named, false = set(), r"^-- false: (.*)\n(?=(?:--.*\n)*(?:pub )?\w+ :)"
     for path in files_of("*", "proofs/*Trials.antt"):
         for labels in re.findall(false, text_of(path), re.M):
@@ -96,14 +98,14 @@ def wrong_trials():
 
 
 def on_one_line(text):
-    """A clause, a signature or a source on one line, without lifetimes, so that layouts can be compared."""
+    """A clause, a signature or a source on one line and without lifetimes. So texts in different layouts can be compared."""
     line = " ".join(text.split()).replace("; }", " }").replace("( ", "(").replace(", )", ")")
     return re.sub(r"'\w+ (?=mut |\[|&|\w)|<'\w+>|\bmut (?=self\b)|\b(?:std::result|clap)::", "", line)
 
 
 def quoted_in(page):
-    """The clauses and signatures that a page quotes, each with the forms that it can have in the source. In a text block, `S` and
-    `S'` are the values before and after the call that `self` points to."""
+    """The clauses and signatures that a page quotes, each with the forms that it can have in the source. In a text block, `S` is
+    the value that `self` points to before the call, and `S'` is the value after it."""
     for block in re.findall(r"```rust\n(.*?)```", page, re.S):
         yield from ([it] for it in re.findall(r"^\s*((?:ensures|requires)\b.*?);?$", block, re.M))
     for block in re.findall(r"```text\n(.*?)```", page, re.S):
@@ -148,8 +150,8 @@ def wrong_names():
 
 
 def named_laws(page):
-    """The crates and names of the laws and promises in the tables of a page, from the column after the conditions. A name without a
-    crate has the crate in the head of its table."""
+    """The crates and names of the laws and promises in the tables of a page. They are in the column after the conditions. If a
+    name has no crate, its crate is in the head of the table."""
     place = ""
     for line in re.findall(r"^\| .*$", page, re.M):
         place = (re.findall(r"Function of `(\w+)", line) or [place])[0] if " | Condition | " in line else place
@@ -159,7 +161,7 @@ def named_laws(page):
 
 
 def wrong_laws():
-    """The laws and promises that PROVED doesn't name, and the names in its tables that aren't any."""
+    """The laws and promises that PROVED doesn't name, and the names in its tables that are no laws and no promises."""
     page = text_of("docs/PROVED.md")
     named, wanted = set(named_laws(page)), {(it.split("::")[0], it.split("::")[-1]) for it in laws()}
     in_prose = {it for it in wanted if it[0] in LAWS_IN_PROSE and f"`{it[1]}`" in page}
@@ -179,11 +181,12 @@ def percent_of(ratios):
 
 
 def wrong_figures():
-    """The figures of README, and one of DECISIONS, that differ from PERFORMANCE, and the wrong ratios of PERFORMANCE."""
+    """The figures of README and DECISIONS that differ from PERFORMANCE, and the wrong ratios in PERFORMANCE."""
     page = text_of("docs/PERFORMANCE.md")
     ours = table_below("`ctable`, and the original", page)
     calls = table_below("Calls from Rust and Python", page)
-    # A line has some figures of the package, that of the original, and ratios. The first of each are those of `Table`.
+    # A line has some figures of the package, then the figure of the original, then ratios. The first figure and the first ratio
+    # are for `Table`.
     tables = [(it[0], it[len(it) // 2], it[len(it) // 2 + 1]) for it in calls]
     wrong = [f"docs/PERFORMANCE.md: {it} of {original} isn't {ratio}" for it, original, ratio in ours + tables if abs(it / original - ratio) > 0.0105]
     block = re.search(r"^100,000 records .*?\n(.*?)^```", page, re.M | re.S)[1]
@@ -209,7 +212,7 @@ def wrong_lines():
 
 
 def wrong_versions():
-    """The places that don't have the version of the newest heading of CHANGELOG.md."""
+    """The places whose version isn't the one in the newest heading of CHANGELOG.md."""
     version = re.search(r"^## (\d+\.\d+\.\d+)", text_of("CHANGELOG.md"), re.M)[1]
     wrong = []
     for path, pattern in VERSIONS.items():

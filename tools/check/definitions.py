@@ -11,11 +11,11 @@ LIBRARIES = [
     *("cluster_width", "comfy_parts", "comfy_table", "devices", "comfy_run"),
     *("csv_records", "csv_tables", "csv_command", "comfy_c", "promises", "csv_promises"),
 ]
-# the files with promises; those of comfy_c are in it, because no crate can depend on it
+# the files with promises; the promises of comfy_c are in that crate, because no crate can depend on it
 PROMISES = ("crates/promises/src/", "crates/csv_promises/src/", "crates/comfy_c/src/promised.rt")
 BRACES = r"\{(?:[^{}]|\{(?:[^{}]|\{[^{}]*\})*\})*\}"
 PUBLIC = r"(?:pub(?:\(\w+\))? )?"
-MODEL = {"Value", "view"}  # the members that define a type's model; an invariant is proved, so it isn't one
+MODEL = {"Value", "view"}  # the ghost members that define a type's model; invariants, which are proved, aren't among them
 
 
 @dataclass(frozen=True)
@@ -25,19 +25,19 @@ class Definition:
     path: str
     line: int
     text: str = field(compare=False)
-    head: str = field(compare=False, default="")  # the line of its module or block
+    head: str = field(compare=False, default="")  # the first line of the module or block around it
 
     def lines(self):
         return self.text.count("\n") + 1
 
     def is_a(self, word):
-        """True if a word of Rust, such as `fn` or `enum`, declares it."""
+        """True if the definition is declared by this word of Rust, such as `fn` or `enum`."""
         return re.search(rf'^ *{PUBLIC}(?:extern "C" )?{word} ', self.text, re.M) is not None
 
 
 @dataclass(frozen=True)
 class Function:
-    """A function: the words with which a page can name its place, its clauses by name, and its signature."""
+    """A function: its place, in the words by which a page can name it, its clauses by name, and its signature."""
 
     places: set
     clauses: list
@@ -86,7 +86,7 @@ def path_of(module):
 
 @functools.cache
 def imports_of(path):
-    """The module and the name in it of each word that a file imports. The name is "" for a whole module."""
+    """For each word that a file imports, the module that it comes from and its name there. For a whole module, the name is ""."""
     found, text = {}, text_of(path)
     use = r"^\s*(?:(?:pub|ghost|unfoldable) )*use (Rattle\.[\w.-]+)"
     for module, words in re.findall(use + r"\.\{([^}]*)\}", text, re.M):
@@ -128,7 +128,7 @@ def specs_in(path):
 
 @functools.cache
 def blocks_in(path):
-    """The impls and traits of a file, as matches."""
+    """The impls and traits of a file, as matches of a pattern."""
     block = r"^(?:pub )?(?:impl|trait)\b[^{]*\{\n(?:(?: .*)?\n)*\}"
     return list(re.finditer(block, text_of(path), re.M))
 
@@ -144,7 +144,7 @@ def members_of(path, block):
 
 
 def types_in(path):
-    """The types that a file of src/ declares, by name: the model of each, or its declaration if it has none."""
+    """The types that a file of src/ declares, by name. Each has its model, or its declaration if it has no model."""
     found, text = {}, text_of(path)
     declared = rf"(^{PUBLIC}(?:struct|enum) (\w+)(?:.*;$|.*\{{$(?:\n .*)*\n\}}))"
     for it in re.finditer(rf"((?:^//.*\n)*)(?:^#\[.*\n)*{declared}", text, re.M):
@@ -158,7 +158,7 @@ def types_in(path):
 
 
 def by_name(pairs):
-    """The second parts of pairs, in a list for each first part."""
+    """A dict from each first part of pairs to a list of its second parts."""
     found = {}
     for name, one in pairs:
         found.setdefault(name, []).append(one)

@@ -1,5 +1,6 @@
 #!/usr/bin/env python3
-"""Tries the mutations crates/CRATE/mutations/*.edit, many in one check, and prints which of them the prover refuses.
+"""Tries the mutations in crates/CRATE/mutations/*.edit, and prints which of them the prover refuses. A mutation is a wrong change
+of the code, which a proof has to notice. Many mutations are tried in one check.
 
     tools/check/mutations.py [--must-fail] [--jobs N] [--list] [--only TEXT] [CRATE]..
 
@@ -9,29 +10,30 @@ A file is named FUNCTION__WHAT_IS_WRONG.edit, and has the form that `rt must-fai
     old: TEXT
     new: TEXT
 
-The old text, a line or a part of one, must be in the file exactly once. The new text replaces it. More pairs can follow, each
-with a line `file:` of its own if it is in another file.
+The old text is a line or a part of a line. It must be in the file exactly once. The new text replaces it. More pairs of an old and
+a new text can follow. A pair for another file begins with a line `file:`.
 
 Without CRATE, all crates are tried. The options are:
 
     --must-fail    also try the mutations of must-fail/
-    --only TEXT    try only those whose label, that is the source file and the name, contains TEXT
-    --list         try none, and print those that can't be applied, and those whose name is in both folders of the crate
+    --only TEXT    try only the mutations whose label contains TEXT; the label is the source file and the name
+    --list         try none; print the mutations that can't be applied, and names that are in both folders of the crate
 
-Checks run on a copy of the crate and of the crates below it. The copy has the kept results of earlier checks, so `rt check` in the
-crate's folder beforehand saves time. A check tries mutations of different functions together, because it prints for each function
-if it is proved. A function that calls a mutated one is tried again in a later check. If a check prints no result for a mutation,
-the mutation is tried alone.
+Checks run on a copy of the crate and of the crates below it. The copy has the stored results of earlier checks, so it saves time
+to run `rt check` in the crate's folder first. A check prints for each function whether it is proved. So mutations of different
+functions are tried together. If a function calls a mutated function, the caller's own mutation is tried again in a later check. If
+a check prints no result for a mutation, the mutation is tried alone.
 
 The result of each mutation is printed:
 
     refused              a goal isn't proved
     SURVIVED             the crate is proved with it
-    STALE                no goal is unproved; a written answer names a thing that the mutation removes, so no clause was tried
+    STALE                no goal is unproved, but a written answer names a thing that the mutation removes; so no clause was tried
     CANNOT BE APPLIED    an old text is missing, or is there more than once
     CANNOT BE READ       the changed source doesn't compile
 
-The status is 1 unless every mutation is refused, or with --list, unless each can be applied and has a name of its own.
+The status is 0 if every mutation is refused. With --list it is 0 if every mutation can be applied and has a name of its own.
+Otherwise it is 1.
 """
 import argparse
 import glob
@@ -44,7 +46,7 @@ import tempfile
 
 from definitions import TOP
 
-TRIES = 5  # checks in which mutations of called functions can hide a function, before its mutation is tried alone
+TRIES = 5  # the number of checks in which called functions can hide a function's result, before its mutation is tried alone
 # the messages about an answer that names a removed thing
 STALE = r"has no field|has no `|is not in scope|is not a field|was not admitted"
 FUNCTION = r"^[ \t]*(?:pub(?:\(\w+\))? )?(?:const )?fn (\w+)"
@@ -52,7 +54,7 @@ FORM = r"file: \S+\n(?:(?:file: \S+\n)?old: .+\nnew:.*\n)+"  # of an edit
 
 
 class Mutation:
-    """Pairs of texts. The old one is in a file of the crate exactly once, and the new one replaces it."""
+    """Pairs of texts. Each old text is in a file of the crate exactly once, and the new text replaces it."""
 
     def __init__(self, name, lines, crate):
         self.name, self.pairs, self.tries, self.is_alone = name, [], 0, False
@@ -144,8 +146,8 @@ def copied(crate, room):
 
 
 def checked(copy, crate, texts, jobs):
-    """Checks the copy of a crate with changed texts of files, and restores these files. Returns the printed lines, those of them
-    that are errors of a source that can't be read, and True if the crate is proved."""
+    """Checks the copy of a crate with changed texts of files, and restores these files. Returns the printed lines, the lines among
+    them that say that a source can't be read, and True if the crate is proved."""
     for file, text in texts.items():
         with open(f"{copy}/{file}", "w", encoding="utf-8") as it:
             it.write(text)
@@ -161,7 +163,8 @@ def checked(copy, crate, texts, jobs):
 
 
 def states_of(lines, calls):
-    """The state of each function in the lines of a check. Adds the unproved functions that each calls to `calls`."""
+    """The state of each function in the lines of a check. For each function, the unproved functions that it calls are added to
+    `calls`."""
     states = {it[1]: it[2] for it in (re.match(r"fn (\S+): (.*)", line) for line in lines) if it}
     for function, state in states.items():
         if "it calls" in state:
@@ -175,7 +178,7 @@ def state_of(mutation, states):
 
 
 def is_over(caller, callee, calls):
-    """True if a mutated function is another one, or is known to call it, directly or through others."""
+    """True if the first function is the second, or is known to call it directly or through other functions."""
     reached = [it for it in calls if it.endswith(caller)]
     for function in reached:
         reached += [it for it in calls.get(function, ()) if it not in reached]

@@ -3,10 +3,11 @@
 
     tools/check/new_items.py
 
-An item has a name that callers of comfy_table or comfy_parts can use. It is a module of comfy_table, a type, a function, a
-constant, or a method, field or variant of such a type. original_names.txt has those of the original. The page names an item in
-its sections Otherwise or New, either itself, or by a module or a type that is new too. If the original has the name of a member
-elsewhere, the page names the member with its type, for example `Column::padding`.
+An item has a name that callers of comfy_table or comfy_parts can use. It is a module of comfy_table, a type, a function or a
+constant, or a method, field or variant of such a type. The file original_names.txt has the items of the original.
+
+The page names an item in its sections Otherwise or New. It names the item itself, or a new module or type that has the item. If
+the original has another member with the same name, the page names the item with its type, for example `Column::padding`.
 """
 import os
 import re
@@ -20,7 +21,7 @@ USED = r"^ *pub use (?:\w+::)*(?:\{([^}]*)\}|(\w+));"
 
 
 def original():
-    """The original's names, each in a tuple. That of a member comes after its type."""
+    """The names of the original's items as tuples. A member's tuple has its type and its name."""
     for line in text_of("tools/check/original_names.txt").splitlines():
         of_type, _, names = line.rpartition(": ") if not line.startswith("#") else ("", "", "")
         yield from ((of_type, name) if of_type else (name,) for name in names.split())
@@ -62,7 +63,7 @@ def own_name(it):
 
 
 def unlisted():
-    """A line for each item that only one of the two has, and that the page doesn't name."""
+    """A line for each item that only one of the two libraries has, and that the page doesn't name."""
     names, here = set(original()), items()
     known = {it[-1] for it in names}
     page = re.search(r"^## Otherwise$.*?\Z", text_of("docs/DIFFERENCES.md"), re.M | re.S)[0]

@@ -4,9 +4,11 @@ file and line.
 
     tools/check/reach.py
 
-A definition is used if its name is in code, in a trial, in the head of a module, or in a definition that is used. The proof files
-of functions (Answers, Invariants, Proof) count as code. A name means the definition that its file declares or imports by this
-name. A function is called if its name is in its crate before a parenthesis, or among the arguments of a call.
+A definition is used if its name is in one of these places: code, a trial, the head of a module, or a definition that is used. The
+proof files of functions (Answers, Invariants, Proof) count as code. A name means the definition that its file declares or imports
+by this name.
+
+A function is called if somewhere in its crate its name is before a parenthesis, or is among the arguments of a call.
 """
 import glob
 import re
@@ -19,7 +21,7 @@ ROUND = r"\((?:[^()]|\((?:[^()]|\([^()]*\))*\))*\)"
 DECLARING = r"(?:(?:pub|abbrev|unfoldable|opaque|private|instance|record|data|enum|syntax) )*"
 # the first line of a definition: its name and its parameters, up to a colon or the end of the line
 BEGINS = re.compile(rf" *{DECLARING}([^\s:(){{}}\[\]]+)(?: (?:{ROUND}|\{{[^}}]*\}}|_))*(?: :(?= |$)|$)")
-# in code, the name of a function that is called, or that is an argument of another one
+# in code, the name of a function that is called, or that is passed to another function
 CALLS = (r"\b(\w+)(?=\(|::<)", r"(?:(?<=[(:])|(?<=[,:=] ))(\w+)(?=[,;)])")
 NO_NAMES = {"use", "module", "mod", "unfolding", "in", "let", "where"}
 ANSWERS = ("Answers.antt", "Invariants.antt", "Proof.antt", "Trials.antt")
@@ -42,7 +44,8 @@ def code_of(path):
 
 
 def parts_of(path):
-    """The definitions of a file by name, each with the number of its first line and its lines; and the other lines."""
+    """The definitions of a file by name, each with the number of its first line and its lines. After them, the other lines of the
+    file."""
     found, outside, modules = {}, [], []
     own = outside
     for number, line in enumerate(code_of(path).split("\n"), 1):
@@ -65,7 +68,8 @@ def file_of(module):
 
 
 def origin(word, path, parts):
-    """The file and the name of the definition that a word of a file means, or None if it isn't one of this project."""
+    """The file and the name of the definition that a word of a file means, or None if the word means no definition of this
+    project."""
     while word not in parts.get(path, ({},))[0]:
         module, word = imports_of(path).get(word, ("", ""))
         if not word:

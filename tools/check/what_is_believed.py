@@ -10,8 +10,8 @@
 A promise is a function of `promises`, of `csv_promises`, or of `promised.rt` of `comfy_c`. The name of any
 other function of a library works too. Without a name, the promises are listed, each with its number
 of lines. --functions lists all public functions that have clauses, with their files. --update writes
-the counts into docs/PROVED.md: those of a promise at the end of its row in a table, and that of all
-definitions in a sentence.
+the counts into docs/PROVED.md. The counts of a promise are at the end of its row in a table. The
+count of all definitions is in a sentence.
 
 A clause uses the definitions of its words, of the types in the function's signature, and of the ghost
 members of its block. The definition of a type of src/ is its model, or its declaration if it has no
@@ -38,7 +38,7 @@ WORD = r"(?<![\w.'-])[A-Za-z_][\w']*(?![\w'-])"
 
 
 def named(word, path):
-    """The file that defines a word of a file, the name there, and True if it is a variant. None if no file does."""
+    """The file that defines a word of a file, the word's name there, and True if it is a variant. If no file defines it, None."""
     name, module = word, ""
     while name not in definitions_in(path):
         if name in imports_of(path):
@@ -81,7 +81,8 @@ def members_below(one):
 
 
 def all_below(starts, is_followed):
-    """The definitions that others use, directly or through others, in reading order; and the names that weren't followed."""
+    """The definitions that some definitions use, directly or through others, in reading order. After them, the names that weren't
+    followed."""
     found, others, waiting = {}, {}, starts[::-1]
     while waiting:
         one = waiting.pop()
@@ -105,7 +106,7 @@ def start_of(function):
 
 
 def all_starts(paths=PROMISES):
-    """The beginnings of the public functions in files whose paths begin like these, by label."""
+    """The beginnings of the public functions in files whose paths begin with one of `paths`, by label."""
     return {
         f"{crate}::{name}": start_of(one)
         for crate in LIBRARIES for name, found in functions_of(crate).items() for one in found
@@ -126,7 +127,7 @@ def listed_functions():
 
 
 def believed(starts):
-    """The definitions of this project that a promise uses, with its functions; and the names of other libraries."""
+    """The definitions of this project that a promise uses, with its functions. After them, the names of other libraries."""
     return all_below(starts, lambda path: crate_of(path) in LIBRARIES)
 
 
@@ -140,7 +141,7 @@ def is_declared(one):
 
 
 def count_of(found):
-    """The number of lines of definitions, with one for each module or block around them."""
+    """The number of lines of definitions. Each module or block around them adds one line."""
     counted = [it for it in found if not is_function(it) and not is_declared(it)]
     heads = {(it.path, it.head) for it in counted if it.head}
     return sum(it.lines() for it in counted) + len(heads)

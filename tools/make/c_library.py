@@ -3,12 +3,14 @@
 
     tools/make/c_library.py [TARGET]
 
-Only the crate comfy_c is proved again then. If a library is missing, or older than one of its sources, a line says so, and
-`rt lib` makes the file. It uses no result of `rt ci`, so it proves all crates again.
+With these libraries, only the crate comfy_c is proved again. If a library is missing, or older than one of its sources, a line
+says so. Then `rt lib` makes the file. It uses no result of `rt ci`, so it proves all crates again.
 
-Beside the file are module.bc and module.words: the LLVM module that the toolchain compiled, and the arguments with which it called
-clang. tools/make/targets.py compiles the module for targets that the toolchain doesn't have. TARGET is another target that the
-toolchain has, aarch64-unknown-linux-gnu. The library for it is put into out/TARGET; that takes the libraries of `rt ci`.
+Two more files are put beside the library. module.bc is the LLVM module that the toolchain compiled. module.words has the arguments
+with which the toolchain called clang. tools/make/targets.py compiles the module for targets that the toolchain doesn't have.
+
+TARGET is another target that the toolchain has, aarch64-unknown-linux-gnu. The library for this target is put into out/TARGET. It
+can be built only with the libraries of `rt ci`.
 """
 import os
 import shutil
@@ -26,7 +28,7 @@ CRATE = "comfy_c"
 
 
 def libraries_of(crate):
-    """The libraries that a crate uses, by crates.txt."""
+    """The libraries that a crate uses, as crates.txt lists them."""
     for line in (TOP / "crates.txt").read_text().splitlines():
         names, _, libraries = line.partition("#")[0].partition(":")
         if names.split()[:1] == [crate]:
@@ -57,7 +59,8 @@ def library_at(crate):
 
 
 def missing(crate):
-    """The reason why a built library can't be used, or None. It must be newer than its sources and the libraries below it."""
+    """The reason why a built library can't be used, or None. It must be newer than its sources and than the libraries that it
+    uses."""
     built = library_at(crate) / "format"
     if not built.exists():
         return f"{built.parent} is missing"
@@ -69,7 +72,7 @@ def missing(crate):
 
 
 def words_for(below, target, toolchain, file):
-    """The arguments of a build for a target, to a file, that links these libraries."""
+    """The arguments of a build for a target. It links these libraries, and writes to the file."""
     words = ["--crate-name", CRATE, "src/lib.rt", "--crate-type", "staticlib", "--links", f"{CRATE}="]
     for library in ["std", *libraries_of(CRATE)]:
         words += ["--extern", f"{library}={library_at(library)}"]
@@ -95,7 +98,7 @@ def build(target):
             words = [sys.executable, f"{kit}/bin/rt", "lib"]
         folder.mkdir(parents=True, exist_ok=True)
         if target == HOST:
-            # Those of other targets are of the same sources, so they are made again.
+            # The files for other targets are made from the same sources, so they have to be made again.
             for made in [*Path("out").glob("*/*comfy_c.*"), *Path("out").glob("*/csvtable.wasm")]:
                 made.unlink()
         status = subprocess.call(words)

@@ -1,17 +1,19 @@
 #!/usr/bin/env python3
-"""Collects the examples of doc comments in the crate `example_docs`, which the gate proves and runs.
+"""Collects the examples of doc comments in the crate `example_docs`, which `rt ci` proves and runs.
 
     tools/make/doc_examples.py            writes the source of the crate and its stored output
     tools/make/doc_examples.py --check    prints the files that differ from the comments, and ends with status 1 if one does
 
-The examples of the crates BY_HAND are in tests that are written by hand, or are a `main`. The check looks for their lines in
-FILES_BY_HAND.
+The examples of the crates BY_HAND aren't collected. They are in tests that are written by hand, or in a function `main`. With
+--check, their lines have to be in FILES_BY_HAND.
 
-An example is a fenced block without a language in a doc comment of comfy_parts or comfy_table. It becomes a function with the
-name of the item that has the comment. Each variable that an example uses without making it, such as `table`, becomes a parameter.
-A new table becomes one too, because a function that owns a table takes long to prove. Examples that print nothing are called
-first, from functions of their own, whose errors need no conversion. Lines that begin with `//` are the output of an example, or the
-value of its last `let`, a `text` or `is_so`. They make the stored output. `\\u{1b}` in them means ESC.
+An example is a fenced block without a language in a doc comment of comfy_parts or comfy_table. It becomes a function with the name
+of the item that has the comment. Each variable that an example uses without making it, such as `table`, becomes a parameter. A new
+table becomes a parameter too, because a function that owns a table takes long to prove. Examples that print nothing are called
+first. They are called by separate functions, whose errors need no conversion.
+
+Lines of an example that begin with `//` are its output, or the value of its last `let`, which is a `text` or `is_so`. They make
+the stored output. `\\u{1b}` in them means ESC.
 """
 import glob
 import os
@@ -51,7 +53,8 @@ def snake(word):
 
 
 def name_of(path, before, after):
-    """The name of the item that has a doc comment, after the name of its type. The module's own comment has the file's name."""
+    """The name of the item that has a doc comment. The name of its type, if there is one, comes before it. For the comment of a
+    module, this is the file's name."""
     if after is None:
         return os.path.basename(path)[: -len(".rt")]
     indent, kind, item = re.match(r"(?:\s*#\[.*\n)*( *)(?:pub (?:const )?(\w+)|macro_rules!) (\w+)", after).groups()
@@ -130,7 +133,7 @@ def examples_of(crate):
 
 
 def is_line_of(example, line):
-    """True if a line of a test is that of an example. An expression of an example is asserted."""
+    """True if a line of a test agrees with a line of an example. In the test, an expression of the example is asserted."""
     return line.strip() in (example.strip(), f"assert!(rt; {example.strip()});")
 
 
@@ -191,7 +194,7 @@ def body(lines):
 
 
 def drivers(name, result, examples):
-    """The calls of functions that call a few examples each, and the code of these functions."""
+    """Functions that call a few examples each: the calls of these functions, and their code."""
     called, code = [], ""
     for at in range(0, len(examples), AT_ONCE):
         lines = [it.call() for it in examples[at : at + AT_ONCE]]
@@ -262,7 +265,7 @@ fn show(rt: &HostRuntime, text: Result<String>) -> anyhow::Result<()> {
 
 
 def laid_out(texts):
-    """The files in the layout of `rt fmt`, which examples in comments may not have."""
+    """The files in the layout of `rt fmt`. Examples in comments may have another layout."""
     with tempfile.TemporaryDirectory() as room:
         shutil.copy(f"{TOP}/crates.txt", room)
         for path, text in texts.items():

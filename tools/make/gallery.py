@@ -1,10 +1,11 @@
 #!/usr/bin/env python3
-"""Writes docs/GALLERY.md: commands and programs, each with what it draws.
+"""Writes docs/GALLERY.md: commands and programs, each with its drawing.
 
     tools/make/gallery.py
 
-Drawings come from stored outputs, from cases of test_csv_cases, and from the first comments of the packages' examples, which
-tools/try/package_test.sh compares with what they print. tools/check/check_proved.py names the page if it differs.
+The drawings are stored outputs, cases of test_csv_cases, and the first comments of the packages' examples.
+tools/try/package_test.sh compares these comments with the output of the examples. tools/check/check_proved.py names the page if it
+differs from the output of this program.
 """
 import re
 import shlex
@@ -14,7 +15,7 @@ from project import TOP, text_of
 CASES = "crates/test_csv_cases/stdin"
 PAGE = "docs/GALLERY.md"
 
-# The names of the styles, each with what its lines are for.
+# The names of the styles, each with a remark.
 STYLES = {
     "rounded": "the style if `-s` isn't given. It has lines between rows if a row has several lines",
     "box": "the same, with square corners",
@@ -46,7 +47,7 @@ CASES_SHOWN = {
     "gallery-markdown-fields": "Markdown",
 }
 
-# The beginnings of comments, and the examples of the packages.
+# The examples of the packages: the language, the mark before each line of the first comment, the file, and a remark.
 EXAMPLES = {
     "Rust": ("rust", r"//! ?", "packages/rust/examples/boats.rs", "The word `yes` is red in a terminal."),
     "Python": ("python", "", "packages/python/examples/report.py", "Names are bold in a terminal, and results green or red."),

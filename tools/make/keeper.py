@@ -1,4 +1,4 @@
-"""A copy of the Rattle toolchain that keeps the LLVM module which it compiles, and the words with which it calls clang."""
+"""A copy of the Rattle toolchain that keeps the LLVM module which it compiles, and the arguments with which it calls clang."""
 import os
 import shutil
 import subprocess
@@ -6,7 +6,7 @@ import subprocess
 KIT = os.path.dirname(subprocess.check_output(["rt", "doc"], text=True).strip())
 CLANG = f"{KIT}/toolchain/bin/clang"
 
-# What takes the place of clang: it keeps the module and the words that it is called with, and calls clang.
+# The program that takes the place of clang. It keeps the module and the arguments that it is called with, and then calls clang.
 KEEPER = """#!/usr/bin/env python3
 import os, shutil, sys
 if "module.bc" in sys.argv:
@@ -17,13 +17,13 @@ os.execv({clang!r}, [{clang!r}, *sys.argv[1:]])
 
 
 def copied_kit(at):
-    """A folder with all that the kit has, but the keeper in place of clang."""
+    """Makes a folder with all files of the toolchain, but with the keeper in place of clang."""
     kit = f"{at}/kit"
     os.makedirs(f"{kit}/toolchain/bin")
     for name in os.listdir(KIT):
         if name not in ("bin", "toolchain"):
             os.symlink(f"{KIT}/{name}", f"{kit}/{name}")
-    # `rt` finds its kit by the place of its own file, so a link wouldn't do.
+    # `rt` finds the toolchain by the path of its own file. So this has to be a copy, and no link.
     shutil.copytree(f"{KIT}/bin", f"{kit}/bin")
     os.symlink(f"{KIT}/toolchain/lib", f"{kit}/toolchain/lib")
     for name in os.listdir(f"{KIT}/toolchain/bin"):

@@ -1,10 +1,10 @@
 #!/usr/bin/env python3
-"""Makes csvtable's man page, its completions for bash and zsh, and the list of options in docs/CSVTABLE.md, from its options.
-The man page also has the sections of docs/CSVTABLE.md, and one of SECURITY.md.
+"""Makes csvtable's man page, its completions for bash and zsh, and the list of options in docs/CSVTABLE.md. All of them are made
+from the options in the program's source. The man page also has the sections of docs/CSVTABLE.md, and a section of SECURITY.md.
 
     tools/make/manual.py
 
-tools/check/check_proved.py names the files that differ from the output.
+tools/check/check_proved.py names the files that differ from the output of this program.
 """
 import os
 import re
@@ -31,7 +31,7 @@ class Option:
 
 SOURCE = text_of("crates/csv_command/src/options.rt")
 VERSION = re.search(r'\.version\("(.+?)"\)', SOURCE)[1]
-DATE = "2026-11-27"  # of this version
+DATE = "2026-11-27"  # the date of this version
 ABOUT = re.search(r'\.about\("(.+?)"\)', SOURCE)[1]
 
 
@@ -56,7 +56,7 @@ ESCAPES = {"\\": "\\e", "-": "\\-", "'": "\\(aq", '"': "\\(dq", "`": "\\(ga", "^
 
 
 def literal(text):
-    """A text for man as it is, in ASCII, with the hyphens of terminals."""
+    """A text in the form that man shows unchanged. It is in ASCII, and its hyphens are those that users type."""
     return "".join(ESCAPES.get(it, it if it.isascii() else f"\\[u{ord(it):04X}]") for it in text)
 
 
@@ -65,7 +65,7 @@ def bold(text):
 
 
 def escaped(text):
-    """A text of a page for man: code and what is bold in bold, in lines of the source of at most 78 characters."""
+    """A text of a page in the form for man. Code and bold text become bold. The lines of the source have at most 78 characters."""
     made = ""
     for part in re.split(r"(`` ` ``|`[^`]*`)", text):
         if part.startswith("`"):
@@ -76,7 +76,7 @@ def escaped(text):
 
 
 def page_for_man(path):
-    """A page without links. What is installed beside the man page has its place there."""
+    """A page without links. In place of a link to a file that is installed with the man page, there is the path of this file."""
 
     def link_to(target, _, text):
         return text if target == path else in_words(text, "share/doc/csvtable/PROVED.md") if target == "docs/PROVED.md" else None
@@ -85,7 +85,7 @@ def page_for_man(path):
 
 
 def blocks(text):
-    """The paragraphs, lists and examples of a text, for man."""
+    """The paragraphs, lists and examples of a text, in the form for man."""
     for block in re.findall(r"```.*?```|(?:(?!\n\n).)+", text, re.S):
         block = block.strip("\n")
         if block.startswith("```"):
@@ -194,7 +194,7 @@ MADE = {"share/csvtable.1": man_page, "share/csvtable.bash": bash, "share/_csvta
 
 
 def wrong_files():
-    """The paths of the files that differ from the output."""
+    """The paths of the files that differ from what this program would write."""
     return [path for path, made in MADE.items() if not os.path.isfile(os.path.join(TOP, path)) or text_of(path) != made()]
 
 

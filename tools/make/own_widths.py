@@ -1,11 +1,12 @@
 #!/usr/bin/env python3
-"""Writes crates/comfy_parts/src/content_split/own_width/table.rt: the columns of each character that doesn't join others.
+"""Writes crates/comfy_parts/src/content_split/own_width/table.rt: the width in terminal columns of each character that doesn't
+join others.
 
 usage: tools/make/own_widths.py UNICODE_WIDTH
 
-UNICODE_WIDTH is the folder with the sources of the crate unicode_width. The columns come from its table of kinds. The characters
-that join others are the `joining_characters` of specs/Columns.antt. `rt check` refuses a table with a wrong value. So run this
-after a change of Unicode's version or of these characters.
+UNICODE_WIDTH is the folder with the sources of the crate unicode_width. The widths come from that crate's table of kinds of
+characters. The characters that join others are the `joining_characters` of specs/Columns.antt. `rt check` refuses a table with a
+wrong value. Run this program after a change of Unicode's version or of these characters.
 """
 import re
 import sys
@@ -30,7 +31,7 @@ def numbers(source, name):
 
 
 def kinds(source):
-    """The number of each character's kind, from blocks of 64 characters with 16 in a word, and from the runs after these."""
+    """The number of each character's kind. The table has blocks of 64 characters, 16 of them in a word, and runs after these."""
     index, words, tail = (numbers(source, f"KIND_{part}") for part in ("INDEX", "WORDS", "TAIL"))
     for block in index:
         for word in words[block * 4 : block * 4 + 4]:

@@ -3,8 +3,8 @@
 
     tools/make/page.py MODULE.wasm OUT.html
 
-tools/make/targets.py makes MODULE.wasm. The page's Content-Security-Policy has the digests of its scripts and of its
-style, so that a browser runs no others, and lets none of them send anything.
+tools/make/targets.py makes MODULE.wasm. The page's Content-Security-Policy has the digests of its scripts and of its style. So a
+browser runs no other scripts, and doesn't let these send anything.
 """
 import base64
 import gzip
@@ -21,7 +21,7 @@ def digest(text):
 
 
 def parts_of(module):
-    """Texts for the names in the template."""
+    """The texts that replace the names in the template."""
     files = {"library": "library.js", "worker": "worker.js", "page": "page.js", "style": "page.css"}
     parts = {name: (TOP / "packages/browser" / file).read_text() for name, file in files.items()}
     parts["module"] = base64.b64encode(gzip.compress(module, 9, mtime=0)).decode()
@@ -37,7 +37,7 @@ def main():
     if len(sys.argv) != 3:
         sys.exit(__doc__)
     parts = parts_of(Path(sys.argv[1]).read_bytes())
-    # A script or style ends at its first end tag.
+    # In HTML, a script or a style ends at the first end tag in it.
     assert not any("</" in text for text in parts.values())
     template = (TOP / "packages/browser/page.html").read_text()
     Path(sys.argv[2]).write_text(re.sub(r"\{(\w+)\}", lambda found: parts[found[1]], template))

@@ -5,7 +5,7 @@
 
 SOURCE is a path of this repository, and PLACE its path in FOLDER. Pages are written there, and their paths are printed. The caller
 puts other files and folders there. A link to one of these paths leads to its place. In place of any other link, the page says that
-the file is one of the sources.
+the file is in the sources.
 """
 import os
 import posixpath
@@ -40,7 +40,8 @@ def dead_links(page, folder):
 
 
 def in_words(text, path, whose="", before=""):
-    """What a page says in place of a link: its text and the path, and whose it is. The text before it decides on parentheses."""
+    """The words of a page in place of a link: the link's text, the path, and whose file it is. Whether there are parentheses
+    depends on the text before it."""
     name, line = f"`{path}`{whose}", before.rpartition("\n")[2]
     if path.removesuffix(".md").endswith(text.strip("`").removesuffix(".md")):
         return name
@@ -48,7 +49,7 @@ def in_words(text, path, whose="", before=""):
 
 
 def with_links(page, link_to):
-    """A page of the sources with other links. `link_to(path, anchor, text)` returns one, or None for a file that isn't there."""
+    """A page of the sources with other links. `link_to(path, anchor, text)` returns a link, or None for a missing file."""
     whole = text_of(page)
 
     def replaced(found):
@@ -62,7 +63,7 @@ def with_links(page, link_to):
 
 
 def page_in(page, places):
-    """A page as a package has it, with the places of sources in the package."""
+    """A page as a package has it. `places` has the paths of sources in the package."""
 
     def link_to(path, anchor, text):
         for source, place in places.items():

@@ -3,9 +3,10 @@
 
     tools/make/pictures.py
 
-Each character is drawn at its column, and a wide one takes two. A picture needs no fonts of its reader: frames are lines, and all
-other characters are outlines from FONTS, whose licences allow this. Making pictures needs these fonts, and fontTools.
-tools/check/check_proved.py needs neither. It names the pictures that differ from the output, but doesn't compare outlines.
+Each character is drawn at its column. A wide character takes two columns. A reader of a picture needs no fonts: frames are lines,
+and all other characters are outlines from FONTS, whose licences allow this. Making pictures takes these fonts and the Python
+package fontTools. tools/check/check_proved.py needs neither. It names the pictures that differ from the output of this program,
+but doesn't compare outlines.
 """
 import os
 import re
@@ -18,9 +19,9 @@ from project import TOP, text_of
 
 WIDTH, HEIGHT, MARGIN = 9, 20, 12  # the width of a column, the height of a line, and the margin, in pixels
 BACKGROUND, FOREGROUND, FRAME = "#1e1e2e", "#e6e6ef", "#8a8fa8"
-OUTLINE = "outline"  # in place of each outline, to compare pictures without them
+OUTLINE = "outline"  # is in place of each outline if pictures are compared without outlines
 COLORS = {"9": "#ff6b6b", "10": "#7ddc8a", "11": "#f2c94c"}
-# The sides that a frame character reaches: left, right, up, down. 0 is no line, 1 a single one, and 2 a double one.
+# The lines of a frame character to the left, to the right, up and down: 0 is no line, 1 a single line, and 2 a double line.
 SIDES = {
     "─": "1100", "│": "0011", "╌": "1100", "┆": "0011", "═": "2200",
     "┌": "0101", "┐": "1001", "└": "0110", "┘": "1010", "╭": "0101", "╮": "1001", "╰": "0110", "╯": "1010",
@@ -32,7 +33,7 @@ SGR = re.compile("\x1b\\[([0-9;]*)m")
 
 
 def arabic_forms():
-    """The characters for Arabic letters between others, by the letter and the name of its form, such as `<medial>`."""
+    """The characters for the forms of Arabic letters, by the letter and the name of the form, such as `<medial>`."""
     parts = {chr(code): unicodedata.decomposition(chr(code)).split() for code in range(0xFE70, 0xFEFD)}
     return {(chr(int(of[1], 16)), of[0]): character for character, of in parts.items() if len(of) == 2}
 
@@ -46,15 +47,15 @@ class Font:
 
     name: str
     licence: str
-    columns: int  # of each character that is taken from it
+    columns: int  # the number of terminal columns of each character that is taken from the font
     size: int  # in pixels
     regular: str
     bold: str
     package: str
-    number: int = -1  # of the font in a file of several
+    number: int = -1  # the number of the font in a file of several fonts
 
 
-# The outline of a character is that of the first font with such columns that has the character.
+# A character's outline is taken from the first font here that has the character, and whose `columns` is the character's width.
 DEJAVU, NOTO = "/usr/share/fonts/truetype/dejavu/DejaVu", "/usr/share/fonts/opentype/noto/NotoSansCJK"
 SYMBOLA = "/usr/share/fonts/truetype/ancient-scripts/Symbola_hint.ttf"
 VERA, OFL = "licence of Bitstream Vera", "SIL Open Font License 1.1"
@@ -97,7 +98,7 @@ def columns_of(character):
 
 
 def runs_of(text):
-    """The pieces of a text that are drawn together, each with its columns: a frame character, spaces, or a word."""
+    """The parts of a text that are drawn as a whole: frame characters, spaces and words. Each has its width in columns."""
     for piece in re.findall(f"[{''.join(SIDES)}]| +|[^ {''.join(SIDES)}]+", text):
         yield piece, sum(map(columns_of, piece))
 
@@ -128,7 +129,7 @@ def style_of(codes, style):
 
 
 def in_order(word):
-    """The characters of a word from left to right. Arabic letters have the forms that they have between their neighbours."""
+    """The characters of a word from left to right. Arabic letters get the forms that they have beside their neighbours."""
     if not any(unicodedata.bidirectional(it) in ("R", "AL") for it in word):
         return word
     joined = [(first, "<initial>") in FORMS and (second, "<final>") in FORMS for first, second in zip(word, word[1:])]
@@ -138,7 +139,7 @@ def in_order(word):
 
 
 def draw_word(word, left, top, style, outlines):
-    """A word as uses of the outlines of its characters, which are added to `outlines`."""
+    """A word, drawn by references to the outlines of its characters. The outlines are added to `outlines`."""
     color, is_bold = style
     uses, at = "", 0
     for character in in_order(word):
@@ -150,7 +151,7 @@ def draw_word(word, left, top, style, outlines):
 
 
 def draw_line(line, top, lines, words, outlines):
-    """Adds the frame characters of a line to `lines`, which are solid and dashed ones, and its words to `words`."""
+    """Adds the frame characters of a line to `lines`, which has solid and dashed lines, and the words of the line to `words`."""
     style, left = ("", False), MARGIN
     for part in re.split("(\x1b\\[[0-9;]*m)", line):
         sequence = SGR.fullmatch(part)

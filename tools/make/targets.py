@@ -3,12 +3,13 @@
 
     tools/make/targets.py TARGET
 
-TARGET is one of those below, by its name in Rust. The files are written into crates/comfy_c/out/TARGET.
+TARGET is one of the targets in OWN_TARGETS and TRIPLES, by its name in Rust. The files are written into crates/comfy_c/out/TARGET.
 
-The Rattle toolchain has Linux on aarch64: there tools/make/c_library.py makes the library. For any other target this takes the
-LLVM module that the toolchain makes for Linux on x86-64, replaces its triple and layout by those of the target, and compiles it
-by the toolchain's own clang, with the words that the toolchain passes. Nothing proves that the module means the same there;
-tools/try/other_targets.sh tests it.
+The Rattle toolchain itself can compile for Linux on aarch64. For this target, tools/make/c_library.py makes the library.
+
+For any other target, this program takes the LLVM module that the toolchain makes for Linux on x86-64. It replaces the module's
+triple and layout by those of the target. Then the toolchain's own clang compiles the module, with the arguments that the toolchain
+passes. It isn't proved that the module has the same meaning on such a target. tools/try/other_targets.sh tests this.
 """
 import os
 import re
@@ -22,10 +23,10 @@ import keeper
 TOP = Path(__file__).resolve().parents[2]
 OUT = TOP / "crates/comfy_c/out"
 HOST = "x86_64-unknown-linux-gnu"
-OWN_TARGETS = ["aarch64-unknown-linux-gnu"]  # those of the toolchain
+OWN_TARGETS = ["aarch64-unknown-linux-gnu"]  # the targets that the toolchain has
 SHUFFLE = "llvm.x86.ssse3.pshuf.b.128"
 
-# The triples of LLVM for the other targets.
+# LLVM's names (triples) of the other targets.
 TRIPLES = {
     "aarch64-apple-darwin": "arm64-apple-macosx11.0.0",
     "x86_64-apple-darwin": "x86_64-apple-macosx11.0.0",
@@ -34,12 +35,12 @@ TRIPLES = {
     "wasm64-unknown-unknown": "wasm64-unknown-unknown",
 }
 
-# The features of WebAssembly that a module uses, in binaryen's words.
+# The features of WebAssembly that a module uses, by their names in the tools of binaryen.
 FEATURES = "memory64 bulk-memory sign-ext nontrapping-float-to-int mutable-globals multivalue".split()
 
 
 class Compiler:
-    """The toolchain's clang for a triple, by the words that the toolchain itself passes."""
+    """The toolchain's clang for a triple, with the arguments that the toolchain itself passes."""
 
     def __init__(self, triple, words):
         self.clang = keeper.CLANG
@@ -59,13 +60,13 @@ class Compiler:
         return subprocess.run([self.clang, *words], check=True, **options)
 
     def tool(self, name, *words):
-        """Runs a program of LLVM that the toolchain's clang is, if it is called by the program's name."""
+        """Runs a program of LLVM. The toolchain's clang acts as this program if it is called by the program's name."""
         with tempfile.TemporaryDirectory() as at:
             os.symlink(self.clang, f"{at}/{name}")
             subprocess.run([f"{at}/{name}", *words], check=True)
 
     def header(self):
-        """The lines of a module for the triple which name its layout and the triple."""
+        """The lines that name the layout and the triple in a module for this triple."""
         words = [f"--target={self.triple}", "-x", "c", "-S", "-emit-llvm", "-", "-o", "-"]
         text = self.run(*words, input="int x;", stdout=subprocess.PIPE, text=True).stdout
         return dict(re.findall(r"^target (datalayout|triple) = (.*)$", text, re.MULTILINE))
@@ -92,25 +93,28 @@ class Compiler:
         os.remove(f"{out}.ll")
 
     def attributes(self, line):
-        """Attributes of functions for the triple: its own processor, and probes of the stack as it has them."""
+        """A line with attributes of functions, changed for the triple. It has the triple's own processor and its way to probe the
+        stack."""
         dropped = ["target-features", "tune-cpu"]
         if not self.triple.startswith("x86_64"):
             dropped.append("target-cpu")
-        # LLVM itself calls the probe of Windows. In WebAssembly the stack's end is the memory's end.
+        # On Windows, LLVM itself inserts the probes. In WebAssembly none are needed, because the end of the stack is the end of
+        # the memory.
         if "windows" in self.triple or self.triple.startswith("wasm64"):
             dropped += ["probe-stack", "stack-probe-size"]
         return re.sub(rf' *"(?:{"|".join(dropped)})"="[^"]*"', "", line)
 
 
 def kept_words(words):
-    """The words of a call of clang that don't depend on the target or on files."""
+    """The arguments of a call of clang that don't depend on the target or on files."""
     dropped = ("--target=", "--sysroot=", "-march=", "-fPIC", "-Werror")
     text = re.sub(r"\n-c\n-x\nir\n.*\n-o\n.*", "", "\n".join(words))
     return [word for word in text.split("\n") if word and not word.startswith(dropped)]
 
 
 def shuffle_for(triple):
-    """x86's PSHUFB in the target's words: a byte of %m below 128 chooses a byte of %a by its low four bits, any other gives 0."""
+    """The x86 instruction PSHUFB, in instructions of the target. A byte of %m below 128 chooses a byte of %a by its low four bits.
+    Any other byte of %m gives 0."""
     table = "declare <16 x i8> @llvm.aarch64.neon.tbl1.v16i8(<16 x i8>, <16 x i8>)\n"
     lines = [
         "  %k = and <16 x i8> %m, splat (i8 -113)",
@@ -133,7 +137,7 @@ def shuffle_for(triple):
 
 
 def library(compiler, code, heap, out):
-    """The two static libraries, and for macOS and Windows the shared one for Python."""
+    """Makes the two static libraries, and for macOS and Windows the shared library for Python."""
     for name, made in (("comfy_c", code), ("libc_c", heap)):
         archive = out / (f"{name}.lib" if compiler.triple.endswith("msvc") else f"lib{name}.a")
         archive.unlink(missing_ok=True)
@@ -149,7 +153,7 @@ def library(compiler, code, heap, out):
 
 
 def page_module(compiler, code, heap, out):
-    """csvtable.wasm, whose memory has 32-bit addresses: some browsers have no other."""
+    """Makes csvtable.wasm. Its memory has 32-bit addresses, because some browsers have no larger ones."""
     objects = [code, heap]
     for name in ("memory", "wide"):
         objects.append(code.with_name(f"{name}.o"))
@@ -166,7 +170,8 @@ def page_module(compiler, code, heap, out):
 def with_short_table(module):
     """A module of WebAssembly whose table, which no call uses, has indices of 32 bits, because wasm-opt 108 refuses those of 64.
 
-    The section says: number 4, five bytes, one table of functions, 64 bits and a greatest size, which is 1 as the least is.
+    The bytes of the section say: section number 4, five bytes, one table of functions, 64-bit indices with a greatest size, and 1
+    as the least and the greatest size.
     """
     section = bytes([4, 5, 1, 0x70, 5, 1, 1])
     assert module.count(section) == 1

@@ -1,11 +1,11 @@
 #!/bin/sh
-# Compares the original and each way to draw by the package for Rust, in one program in Rust, on the inputs below. It counts the
-# instructions of one call of each, and prints the best time of 20 calls of each, which take turns in one process. All drawings
-# of an input have to be the same. It needs cargo and valgrind.
+# Compares the original with each way to draw by the package for Rust, in one program, on the inputs below. For each way it counts
+# the instructions of one call, and prints the best time of 20 calls. These calls take turns in one process. All drawings of an
+# input have to be the same. This needs cargo and valgrind.
 #
 # usage: tools/measure/calls.sh ORIGINAL
-# ORIGINAL is a folder with the sources of comfy-table and its Cargo.toml, in which cargo can build it. COMFY_C can name a folder
-# with libcomfy_c.a and liblibc_c.a; without it, they are built.
+# ORIGINAL is a folder with the sources of comfy-table and its Cargo.toml, in which cargo can build it. The variable COMFY_C can
+# name a folder with libcomfy_c.a and liblibc_c.a. If it isn't set, these files are built.
 set -eu
 if [ $# -ne 1 ]; then
   echo "usage: $0 ORIGINAL" >&2
@@ -46,7 +46,7 @@ count() {
   ONLY=$1 valgrind --tool=callgrind --callgrind-out-file=/dev/null --toggle-collect="by_$1" "$calls" $3 < "$work/$2" 2>&1 > /dev/null | sed -n 's/.*Collected : //p'
 }
 
-# Counts on an input, with arguments for the program, in these ways to draw: measure INPUT WORDS WAY..
+# Measures these ways to draw on an input, with arguments for the program: measure INPUT WORDS WAY..
 measure() {
   input=$1 words=$2
   shift 2

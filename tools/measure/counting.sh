@@ -1,4 +1,5 @@
-# A function that counts the instructions of programs, for the scripts that read this file. They set `work` to a folder.
+# A function that counts the instructions of programs, for the scripts that read this file. These scripts set the variable `work`
+# to a folder.
 
 # compare INPUT WORDS SHARES PROGRAM..
 # Counts the instructions of each program with the arguments WORDS on the file INPUT, and prints its SHARES costliest

@@ -1,4 +1,4 @@
-# Inputs of CSV, for the scripts that read this file. Each run makes the same ones.
+# Makes inputs of CSV, for the scripts that read this file. Each run makes the same inputs.
 
 # Prints a header and RECORDS random records of a kind: csv_of KIND RECORDS. The seed is fixed. The kinds are ledger, benchmark,
 # listing, names and messages.

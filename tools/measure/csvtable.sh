@@ -1,7 +1,7 @@
 #!/bin/sh
 # Measures a built csvtable and other programs on five files: a ledger, a benchmark, a listing, names and messages. It prints
-# millions of instructions, seconds of processor time, and megabytes. mlr and csvlook are only timed, because mlr doesn't run
-# under valgrind, and csvlook would take minutes. It needs valgrind, GNU time, miller and csvkit.
+# millions of instructions, seconds of processor time, and megabytes. The instructions of mlr and csvlook aren't counted, because
+# mlr doesn't run under valgrind, and csvlook would take minutes. It needs valgrind, GNU time, miller and csvkit.
 #
 # usage: tools/measure/csvtable.sh CSVTABLE [RECORDS]
 set -eu
@@ -23,7 +23,7 @@ timed() {
   awk -v name="$1" -v count="$count" '{ printf "  %s: %s%.2f seconds, %.0f MB\n", name, count, $1 + $2, $3 / 1000 }' "$work/time"
 }
 
-# measured FILE PROGRAM [WORD]..: does so too, after counting the program's instructions.
+# measured FILE PROGRAM [WORD]..: does the same, after counting the program's instructions.
 measured() {
   file=$1
   shift

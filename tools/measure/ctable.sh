@@ -2,9 +2,9 @@
 # Counts the instructions of programs on the inputs below, in millions. It needs valgrind, and takes about five minutes.
 #
 # usage: tools/measure/ctable.sh PROGRAM..
-# A PROGRAM has the arguments of ctable, a width and an arrangement, and reads and writes as ctable does. All have to write
-# the same. The ratio of a program is the first program's instructions divided by its own. The folder tools/measure/original
-# has such a program that uses the original.
+# A PROGRAM takes the arguments of ctable, which are a width and an arrangement. It reads and writes as ctable does. All programs
+# have to write the same. The ratio of a program is the first program's instructions divided by its own. The folder
+# tools/measure/original has such a program that uses the original.
 set -eu
 if [ $# -eq 0 ]; then
   sed -n 's/^# usage: //p' "$0" >&2
@@ -16,8 +16,8 @@ work=$(mktemp -d)
 trap 'rm -rf "$work"' EXIT
 
 # Prints a header and ROWS rows of COLUMNS cells with five words: shrinking ROWS COLUMNS. All words of a column have the same
-# length: the average room when the column gets its width, minus 3. So each column shrinks if the width of the table is
-# 23 * COLUMNS + 1.
+# length. It is the average room for a column at the time when this column gets its width, minus 3. So each column shrinks if the
+# width of the table is 23 * COLUMNS + 1.
 shrinking() {
   awk -v rows="$1" -v columns="$2" '
     function drawn(count) { state = state * 16807 % 2147483647; return state % count }
@@ -62,7 +62,7 @@ sentences 6 6 '年 快 乐 新 春 节 日 本 語 漢 字 仮 名 交 文 表 �
 texts '36 年 快 乐 新 あ い う え 한 글 ✅ 🚀/5 é ê ó ô n/19 a b c d e f g h i j k l m n o p q r s t u v w x y z' > "$work/mixed"
 texts '1 ก ข ค ง จ ด ต น บ ป ม ย ร ล ว ส ห อ า ำ เ แ ไ กี นุ ม่ ร้ ล็' > "$work/Thai"
 texts '1 क ख ग च ज त द न प म य र ल स का कि की कु के को क्ष त्र ज्ञ स्त' > "$work/Devanagari"
-# Without the letter lam, because the original doesn't join it with an alef after it.
+# The letter lam is left out, because the original doesn't join it with an alef after it.
 texts '1 ا م ن ب ت ي و ر س د ع ه ك ف ق ح ج ش' > "$work/Arabic"
 texts '1 א ב ג ד ה ו ז ח ט י כ ל מ נ ס ע פ צ ק ר ש ת' > "$work/Hebrew"
 texts '1 a ă â b c d đ e ê g h i n o ô ơ t u ư ạ ấ ề ộ ữ' > "$work/Vietnamese"

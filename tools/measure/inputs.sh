@@ -1,4 +1,4 @@
-# Inputs of the measurements, for the scripts that read this file.
+# Makes inputs of measurements, for the scripts that read this file.
 
 # Prints a header and ROWS rows of CELLS cells, each with WORD and a number below 1,000: short_cells ROWS CELLS WORD.
 short_cells() {
@@ -14,8 +14,8 @@ short_cells() {
   }'
 }
 
-# Prints a header and 2,000 rows of 6 sentences of WORDS words, each of 2 to LONGEST of these letters: sentences WORDS LONGEST
-# LETTERS.
+# Prints a header and 2,000 rows of 6 sentences: sentences WORDS LONGEST LETTERS. Each sentence has WORDS words, and each word has
+# 2 to LONGEST of the letters.
 sentences() {
   awk -v words="$1" -v longest="$2" -v alphabet="$3" '
     function drawn(count) { state = state * 16807 % 2147483647; return state % count }
@@ -32,8 +32,8 @@ sentences() {
     }'
 }
 
-# Prints a header and 2,000 rows of 6 cells of 10 to 60 letters, in words of 1 to 8 letters from one alphabet: texts ALPHABETS.
-# Slashes separate the alphabets, and each begins with its weight in the choice of one.
+# Prints a header and 2,000 rows of 6 cells: texts ALPHABETS. Each cell has 10 to 60 letters, in words of 1 to 8 letters from one
+# alphabet. Slashes separate the alphabets. Each alphabet begins with a number, its weight when an alphabet is chosen at random.
 texts() {
   awk -v alphabets="$1" '
     function drawn(count) { state = state * 16807 % 2147483647; return state % count }

@@ -1,5 +1,5 @@
-/* Draws a CSV file of at most 64 columns as a grid of ASCII. It shows in docs/PERFORMANCE.md the least time that a drawing
- * takes. It counts bytes as columns, replaces a line break in a field by a space, and checks nothing. */
+/* Draws a CSV file of at most 64 columns as a grid of ASCII. docs/PERFORMANCE.md uses it to show the least time that a drawing can
+ * take. It counts each byte as a column. It replaces a line break in a field by a space. It checks nothing. */
 #include <stdio.h>
 #include <stdlib.h>
 #include <string.h>

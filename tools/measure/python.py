@@ -3,8 +3,8 @@
 
     python3 tools/measure/python.py [RUNS]
 
-Each is called RUNS times, or 5 times without RUNS, and they take turns. The best processor time of each is printed, with the
-number of lines that it draws. The package comfy_table_proved, which tools/package.sh makes, has to be installed.
+Each package draws RUNS times, by default 5 times. The packages take turns. For each, the best processor time and the number of
+drawn lines are printed. The package comfy_table_proved, which tools/package.sh makes, has to be installed.
 """
 import io
 import sys

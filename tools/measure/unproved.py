@@ -1,14 +1,14 @@
 #!/usr/bin/env python3
-"""Builds a program in a minute, without proving it, so that two versions can be compared before either is proved.
+"""Builds a program in a minute, without proving it. So two versions can be compared before either of them is proved.
 
     tools/measure/unproved.py CRATE OUT
 
-CRATE is the folder of a program, for example crates/ctable, and OUT the file to write. `rt try` compiles a program with checks
-between its instructions. This tool takes the LLVM module of `rt try`, removes these checks, gives each function the hint on
-inlining in its source, and compiles the module with -O3.
+CRATE is the folder of a program, for example crates/ctable. OUT is the file to write. `rt try` compiles a program with checks
+between its instructions. This tool takes the LLVM module of `rt try` and removes these checks. It gives each function the hint on
+inlining that its source has. Then it compiles the module with -O3.
 
-Compare the instructions of such a program only with those of another one. On ASCII they are within 4 % of those of the program
-that `rt ci` builds. On other texts they are up to 28 % more.
+Compare the number of instructions of such a program only with that of another such program. On ASCII it differs by at most 4 %
+from the number for the program that `rt ci` builds. On other texts it is up to 28 % higher.
 """
 import os
 import re
@@ -54,7 +54,7 @@ def is_check(line):
     if "call void @llvm.trap()" in line or 'call void @"rattle-llvm-checks::' in line:
         return True
     filled = re.search(r"call void @llvm\.memset\.p0\.i64\(ptr %[^,]*, i8 (-86|0), i64 (\d+),", line)
-    # Larger blocks of zeros belong to the program.
+    # The program itself fills larger blocks with zeros.
     return bool(filled) and (filled[1] == "-86" or int(filled[2]) <= 32)
 
 

@@ -3,10 +3,10 @@
 
     tools/try/browser.py PAGE CSVTABLE [COUNT [PICTURES]]
 
-CSVTABLE is the program for Linux. The page must write the same bytes as the program for each case of
-crates/test_csv_cases/stdin and for COUNT random inputs, 1,000 if it isn't given. Files are chosen, dropped and pasted; options,
-copying, scrolling, a large file and a refused request are tried; the right edges of drawn lines must be at one place. In the
-folder PICTURES it writes the page as it looks, light and dark. If there is no Chromium, a line says so, and nothing is tried.
+CSVTABLE is the program for Linux. The page must write the same bytes as the program for each case of crates/test_csv_cases/stdin
+and for COUNT random inputs, by default 1,000. Files are chosen, dropped and pasted. Options, copying, scrolling, a large file and
+a refused request are tried. The right edges of drawn lines must be at one place. Pictures of the page, in light and in dark
+colours, are written into the folder PICTURES. If there is no Chromium, a line says so, and nothing is tried.
 """
 import base64
 import json
@@ -24,7 +24,7 @@ from same_bytes import csvtable_input
 TOP = Path(__file__).resolve().parents[2]
 NAMES = ("chromium", "chromium-browser", "google-chrome")
 
-# A drawing of the page's own worker: base64 of the input, and the arguments.
+# A function that draws by the page's own worker. It takes the input in base64, and the arguments.
 DRAW = """async (input, words) => {
   const bytes = Uint8Array.from(atob(input), (it) => it.charCodeAt(0));
   const answer = await asked(new Blob([bytes]), words);
@@ -49,7 +49,7 @@ FILE = """(text, name) => {
 
 
 class Page:
-    """A page in Chromium, by its protocol for tools over two pipes."""
+    """A page in Chromium, which this controls by Chromium's protocol for tools over two pipes."""
 
     def __init__(self, program, address, profile):
         (read, theirs_out), (theirs_in, write) = os.pipe(), os.pipe()
@@ -125,7 +125,7 @@ class Page:
 
 
 def unescaped(text):
-    """A text of a case, by crates/case_files/FORMAT.md."""
+    """A text of a case. crates/case_files/FORMAT.md says how it is written."""
     letters = {"n": "\n", "t": "\t", "r": "\r", "e": "\x1b", "\\": "\\"}
     return re.sub(r"\\(?:u\{([0-9A-Fa-f]+)\}|(.))", lambda it: chr(int(it[1], 16)) if it[1] else letters[it[2]], text)
 
@@ -147,9 +147,10 @@ def cases():
 
 
 def written_by(program, words, data):
-    """The output of the program, or its message if it draws nothing. The library reads all records, as the program does with --count.
+    """The output of the program, or its message if it draws nothing. The library always reads all records. With --limit, the
+    program does so only if it has --count, which is added then.
 
-    An argument may be the input's name, so the input is in files with the names of all arguments.
+    An argument may be the name of the input. So the input is written into files with the names of all arguments.
     """
     environment = {name: value for name, value in os.environ.items() if name not in ("COLUMNS", "NO_COLOR")}
     with tempfile.TemporaryDirectory() as folder:
@@ -191,7 +192,7 @@ def same(left, right, words):
 
 
 def try_uses(page, program):
-    """Each way to give CSV, the options, and copying."""
+    """Tries each way to give CSV, the options, and copying."""
     def native(words, text):
         width = page.value("String(columns())")
         return written_by(program, ["-w", width, *words], text.encode()).decode()
@@ -229,7 +230,7 @@ def try_uses(page, program):
 
 
 def try_edges(page):
-    """The right edges of lines in many scripts, whose widths in the browser's fonts aren't those of a terminal."""
+    """Tries the right edges of lines in many scripts. Their widths in the browser's fonts differ from those in a terminal."""
     cells = ["日本語", "한글", "👨‍👩‍👧 and 🇩🇪", "✅", "é|á│ü", "ก็", "क्ष", "שלום עולם", "اب", "Αθήνα", "Москва", "1️⃣", "½ → ∞", "ﬁ ﬃ", "☕"]
     text = "text,count\n" + "".join(f"{cell},{at}\n" for at, cell in enumerate(cells))
     for style in ("rounded", "grid", "ascii", "UTF8_BORDERS_ONLY"):
@@ -247,7 +248,7 @@ def try_edges(page):
 
 
 def try_large(page, program):
-    """A file of 400,000 records, 11 MB: the page answers while the worker draws, and shows each of the lines."""
+    """Tries a file of 400,000 records (11 MB). The page must answer while the worker draws, and show each of the lines."""
     text = "name,place,amount,note\n" + "".join(f"n{at},京都,{at * 7919 % 100000}.50,text {at % 97}\n" for at in range(400_000))
     page.run("(text) => { window.given = new Blob([text]); }", text)
     page.value("document.getElementById('fits').checked = false")
@@ -276,7 +277,7 @@ def try_large(page, program):
 
 
 def try_privacy(page):
-    """The page requested nothing but itself and its worker, and a request to a server is refused."""
+    """The page must have requested nothing but itself and its worker. A request to a server must be refused."""
     asked = {it["params"]["request"]["url"] for it in page.events if it.get("method") == "Network.requestWillBeSent"}
     others = [it for it in asked if not it.startswith(("file:", "blob:"))]
     same(others, [], f"the page asked for nothing but itself and its worker ({len(asked)} addresses)")

@@ -1,12 +1,12 @@
 #!/bin/sh
 # Proves and builds the static library of comfy_c and the program csvtable, and tests the library:
 #  - Programs in C call it with bad and extreme arguments, with each request for memory refused in turn, and with random bytes
-#    and arguments. Each call must return what packages/c/comfy_table.h says. If valgrind is installed, it must find no error in
-#    these programs except the last one, in which clang's AddressSanitizer must find none.
+#    and arguments. The result of each call must agree with packages/c/comfy_table.h. If valgrind is installed, it must find no
+#    error in these programs except the last one, in which clang's AddressSanitizer must find none.
 #  - The packages for C, Rust and Python must draw as csvtable does (tools/try/package_test.sh).
 #
 # usage: tools/try/c_library.sh
-# CC is the compiler for C, or cc if it isn't set. liblibc_c.a comes from the Rattle toolchain, whose `rt` is on the PATH.
+# CC is the compiler for C, by default cc. liblibc_c.a comes from the Rattle toolchain, whose `rt` is on the PATH.
 set -eu
 cd "$(dirname "$0")/../.."
 top=$PWD

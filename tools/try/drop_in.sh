@@ -1,15 +1,15 @@
 #!/bin/sh
-# Tests programs for comfy-table 8.0.1 with the package for Rust in its place:
-#  - Random tables, made by the same code with both, must be drawn and read alike, except for the differences in the rows of
-#    docs/DIFFERENCES.md, which are counted. If escape sequences differ, each character except white space must still have the
-#    same style.
+# Tests the package for Rust in programs that were written for comfy-table 8.0.1:
+#  - The same code makes random tables with both libraries. Their drawings and all that can be read from them must be equal, except
+#    for the differences in docs/DIFFERENCES.md. These are counted by the rows of that page. If escape sequences differ, each
+#    character except white space must still have the same style.
 #  - The examples in the original's README and doc comments must compile and run with the package. So must the original's own
 #    tests, if the folder has them.
 #
 # usage: tools/try/drop_in.sh ORIGINAL [COUNT [SEED]]
 # ORIGINAL is a folder with the sources of comfy-table and its Cargo.toml, in which cargo can build it. COUNT is the number of
-# random tables, or 100,000 if it isn't given. COMFY_C can name a folder with libcomfy_c.a and liblibc_c.a; without it, they are
-# built.
+# random tables, by default 100,000. The variable COMFY_C can name a folder with libcomfy_c.a and liblibc_c.a. If it isn't set,
+# these files are built.
 set -eu
 if [ $# -lt 1 ]; then
   echo "usage: $0 ORIGINAL [COUNT [SEED]]" >&2
@@ -63,7 +63,7 @@ for feature in tty custom_styling; do
   "$work/target/release/tables" "$count" "$seed"
 done
 
-# The examples. Those of each file are a module of a crate that has the package under the original's name.
+# The examples. The examples of each file become a module of a crate, which has the package under the original's name.
 mkdir -p "$work/programs/src"
 if [ -e "$original/README.md" ]; then
   cp "$original/README.md" "$work/programs/src"

@@ -1,8 +1,8 @@
 #!/bin/sh
 # Runs a built ctable or csvtable with too little memory, with inputs and outputs that end or are closed, and with arguments that
-# aren't text. It compares the status and standard error. In these runs standard output must be empty. For csvtable it also
-# compares the outputs for a file and for standard input. It prints a line for each run, and ends with status 1 if one differs
-# from the values below.
+# aren't text. The status and standard error are compared with the values below. In these runs standard output must be empty. For
+# csvtable, the output for a file is compared with the output for standard input. A line is printed for each run. The status is 1
+# if a run differs.
 #
 # usage: tools/try/edges.sh PROGRAM, for example tools/try/edges.sh crates/ctable/out/ctable
 set -u
@@ -67,7 +67,7 @@ for limit in 5000 20000 50000 75000 100000 200000; do
 done
 : > "$work/out"
 
-# The status is written to a file, because the status of a pipe is that of its last command.
+# The status is written to a file, because a pipe has the status of its last command.
 {
   "$program" < "$work/large" 2> "$work/err"
   echo $? > "$work/status"
@@ -92,7 +92,7 @@ status=$?
 compare 'a folder as input, and a closed standard error' $status 1 ''
 
 # Arguments that aren't UTF-8: a byte that no text has, such a byte after letters, and a character that ends too early. The input
-# is a folder, whose message would be another one, so the arguments are checked before the input is read.
+# is a folder, which has another message. So these runs show that the arguments are checked before the input is read.
 byte=$(printf '\377')
 after=$(printf 'dynamic\377')
 early=$(printf 'UTF8_FULL\342\202')
@@ -122,7 +122,7 @@ refused 'a file that is not there' "$work/none: no such file" "$work/none"
 refused 'a folder as a file' "$work: is a directory" "$work"
 : > "$work/closed"
 chmod 000 "$work/closed"
-# The superuser can read it.
+# The superuser can read this file, so the run is left out then.
 [ -r "$work/closed" ] || refused 'a file that may not be read' "$work/closed: permission denied" "$work/closed"
 refused 'a column that is not there' "standard input: no column '09'; there are 'a' and 'b'" -c 09
 refused 'all columns left out' 'standard input: no column is left' --drop 1-
@@ -180,7 +180,7 @@ same 'a byte that is no text, after the part that is read'
 "$program" --limit 2 --count "$work/input" > "$work/out" 2> "$work/err"
 compare 'such a byte if all records are counted' $? 1 "csvtable: $work/input: line 50001 isn't UTF-8; try -e cp1252, or iconv -f ENCODING FILE | csvtable"
 
-# An output that accepts no more bytes for now: a pipe in nonblocking mode that nobody reads.
+# An output that accepts no more bytes for the moment: a pipe in nonblocking mode, from which nothing is read.
 if command -v python3 > /dev/null; then
   python3 - "$program" "$work/input" > "$work/status" 2> "$work/err" << 'END'
 import fcntl, os, subprocess, sys
@@ -194,7 +194,7 @@ END
     'csvtable: the output takes no more for now; is it nonblocking?'
 fi
 
-# Reads and writes that signals interrupt.
+# Reads and writes that are interrupted by signals.
 if command -v strace > /dev/null; then
   "$program" "$work/input" -e cp1252 --limit 3 --count > "$work/first"
   strace -o "$work/trace" -P "$work/input" -e trace=read -e inject=read:error=EINTR:when=1+2 \

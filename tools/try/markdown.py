@@ -3,11 +3,11 @@
 
     tools/try/markdown.py CSVTABLE [FILES] [SEED]
 
-It makes FILES random CSV files (1,000 without a number) with web addresses, and with texts that Markdown could take for markup.
-Each is drawn, and `cmark-gfm` (a Debian package) reads the drawing, once with tables only, and once with all that GitHub adds.
-Each field's text has to come back without outer spaces, and each column has to have its alignment. A field that is only an
-address has to be a link to it, if it has no backslash. The first differences and the number of links are printed. The status is
-1 if there is a difference, or no link.
+It makes FILES random CSV files, by default 1,000, with web addresses, and with texts that Markdown could take for markup. Each
+file is drawn. `cmark-gfm` (a Debian package) reads the drawing twice: once with tables only, and once with all extensions of
+GitHub. Each field's text has to come back without the spaces around it, and each column has to have its alignment. If a field is
+only an address, and has no backslash, it has to be a link to this address. The first differences and the number of links are
+printed. The status is 1 if there is a difference, or if there is no link.
 """
 import csv
 import html.parser
@@ -23,7 +23,7 @@ PARTS = (
     + ["a", "b c", "x_y", "_u_", "1", "42", "-7", "3.5", "é", "王小明", "\U0001f680", " ", "  ", "\n", "http://a.b", "a@b.c", ":", "---", ":-:", "'", '"', ",", "$", "^", "="]
     + ["http://", "HTTPS://", "ftp://a.b/", "www.", "www.a.b/", "://", "w.", "mailto:", "xmpp:", "&a", ";", "x;", "&#x2a;", "(", ")", "<script>"]
 )
-# the parts of addresses; not all of them are correct, but they occur
+# parts of addresses; some of them are wrong, but occur in files
 SCHEMES = ["https://", "http://", "https://www.", "www."]
 HOSTS = ["example.org", "a.b-c.net", "en.wikipedia.org", "localhost.test:8080", "192.168.0.1", "show.com"]
 STEPS = ["/", "/a", "/~user", "/wiki/A_(b)", "/a_b/c", "/_next/x", "/%20b", "/a-b.html", "/@user", "/a+b", "/a,b", "/é", "/x!", "/$a", "/a:b", "/a;b", "/x=1'"]

@@ -1,10 +1,13 @@
 #!/bin/sh
 # Tries the libraries for C of other targets that tools/package.sh made, as far as this machine can run them:
-#  - Linux on aarch64 by qemu-user, Linux with musl by musl-gcc, Windows by wine, with the shared libraries of the wheels too
-#  - the shared libraries for macOS by a loader of this project, which is no macOS; that for arm64 by qemu-user
-# Each must draw 3,000 random calls as the library for Linux on x86-64 does, byte for byte, and pass the tests for C that its
-# system has the calls for. The package for Rust must pass its tests on aarch64, if RUSTC, rustc if it isn't set, has that target.
-# Systems that can't be run here are left out, and the last line names those that were tried.
+#  - Linux on aarch64 by qemu-user, Linux with musl by musl-gcc, and Windows by wine; the shared libraries of these wheels are
+#    tried too
+#  - the shared libraries for macOS by a loader of this project, which tests nothing of macOS; the library for arm64 needs
+#    qemu-user too
+# Each library must make the same drawings as the library for Linux on x86-64 in 3,000 random calls, byte for byte. It must pass
+# the tests for C, except tests whose system calls its system lacks. The package for Rust must pass its tests on aarch64, if the
+# compiler RUSTC, by default rustc, has that target. Systems that can't be run here are left out. The last line names the systems
+# that were tried.
 #
 # usage: tools/try/other_targets.sh PACKAGES
 set -eu
@@ -19,7 +22,7 @@ has() {
   command -v "$1" > /dev/null
 }
 
-# Unpacks the archive for C, or the wheel, of a system, if it is there: unpack SYSTEM FILE.
+# Unpacks a system's archive for C or its wheel, if there is such a file: unpack SYSTEM FILE.
 unpack() {
   mkdir -p "$work/$1"
   case $2 in
@@ -39,7 +42,7 @@ draw() {
   tried="$tried, $system"
 }
 
-# Runs the tests for C too.
+# Compares the drawings, and runs the tests for C too.
 try() {
   draw "$@"
   shift 3

@@ -1,6 +1,6 @@
 #!/bin/sh
-# Checks that a program in which a line of split_line_ref outlives its text doesn't compile. A program in which the line ends
-# first must compile and print the line. Nothing is proved.
+# Checks that a line from split_line_ref can't outlive its text: a program in which it does must not compile. A program in which
+# the line ends first must compile and print the line. Nothing is proved.
 #
 # usage: tools/try/outliving_line.sh
 set -u

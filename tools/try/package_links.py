@@ -1,6 +1,6 @@
 #!/usr/bin/env python3
-"""Unpacks packages and finds what their pages lead to in vain: links to files or headings that the package doesn't have, and names
-of pages that it doesn't have, unless the text says that they are of the sources.
+"""Unpacks packages, and finds dead links in their pages: links to files or headings that the package doesn't have. It also finds
+names of pages that the package doesn't have, unless the text says that they are in the sources.
 
     tools/try/package_links.py FOLDER
 
@@ -36,14 +36,14 @@ def unpack(package, folder):
 
 
 def words_of(path):
-    """The words of a text, without the marks of comments, of code and of the man page's fonts."""
+    """The words of a text, without the marks of comments and code, and without the man page's marks for fonts."""
     with (gzip.open if path.endswith(".gz") else open)(path, "rb") as file:
         text = file.read().decode()
     return " ".join(re.sub(r"\\f[BR]|`|^[ \t]*(?:\*|//[/!]?|#) ?", "", text, flags=re.M).split())
 
 
 def missing_pages(path, files):
-    """The pages that a text names, if the package doesn't have them and the text nowhere says that they are of the sources."""
+    """The pages that a text names, if the package doesn't have them, and if the text nowhere says that they are in the sources."""
     words, there = words_of(path), {os.path.basename(it) for it in files}
     named = dict.fromkeys(re.findall(r"\b[A-Z_]+\.md\b", words))
     return [it for it in named if it not in there and f"{it} of the sources" not in words]

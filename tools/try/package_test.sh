@@ -1,11 +1,12 @@
 #!/bin/sh
-# Makes the packages, twice, and the same ones. Installs each alone, and tries it: those of csvtable and for C
-# in an empty prefix or an empty root of Debian, those for Rust and Python in an empty project of cargo and an empty virtual
-# environment. The tests of the packages must pass, and their example programs must print the same bytes as csvtable, or what
-# they say of themselves. What isn't there, as a compiler or dpkg, is left out, and the last line says what was tried.
+# Makes the packages twice, which must give equal files. Then it installs each package alone, and tries it. The packages of
+# csvtable and for C are installed in an empty prefix, or in an empty root of Debian. The packages for Rust and Python are
+# installed in an empty project of cargo, and in an empty virtual environment. The tests of the packages must pass. Their example
+# programs must print the same bytes as csvtable, or the drawing in their first comment. If a program isn't installed, such as a
+# compiler or dpkg, its tries are left out. The last line says what was tried.
 #
 # usage: tools/try/package_test.sh
-# CC is the compiler for C, cc if it isn't set. Programs that aren't built yet are built first.
+# CC is the compiler for C, by default cc. Programs that aren't built yet are built first.
 set -eu
 cd "$(dirname "$0")/../.."
 top=$PWD
@@ -31,8 +32,8 @@ printf 'name;price\n\377;\351\n' > "$work/csv/bank.csv"
 printf 'name,price\n"oats,3\n' > "$work/csv/open.csv"
 : > "$work/csv/nothing"
 
-# Compares what a program writes, or says if it draws nothing, with what csvtable does, with arguments that are accepted and
-# others. What csvtable says beside a drawing has no place in a call.
+# Compares the output of a program with that of csvtable, with arguments that are accepted and with others. If nothing is drawn,
+# the messages are compared. A message that csvtable prints beside a drawing isn't compared, because a call doesn't return it.
 compare_csv() {
   for arguments in '' '-w 40' '-s grid -r 1' '-x --limit 2 --color always' '--markdown -e cp1252' '-t -n --rows' '-c 2,1 -m 1' \
     '--no-quotes --ansi -s NOTHING' '-w 65535 --full -d ;' '-c nothing' '--rows --no-rows' '-w wide' '-d ab' '--odd' '--help'; do
@@ -46,7 +47,8 @@ compare_csv() {
   echo "$* draws as csvtable"
 }
 
-# In a terminal of 44 columns the program's table keeps to them and has colours, but with NO_COLOR. Into a pipe it has neither.
+# In a terminal of 44 columns, the program's table isn't wider than the terminal. It has colours, except with NO_COLOR. In a pipe
+# it has neither this width nor colours.
 try_in_terminal() {
   columns() { sed 's/.\[[0-9;]*m//g; s/\r//' "$work/drawn" | LC_ALL=C.UTF-8 wc -L; }
   colors() { grep -c '38;5;' "$work/drawn" || true; }
@@ -59,18 +61,19 @@ try_in_terminal() {
   echo "$1 keeps to its terminal"
 }
 
-# An installed csvtable draws as the built one.
+# An installed csvtable must draw as the built program does.
 try_csvtable() {
   "$1/bin/csvtable" crates/csvtable/data/ledger.csv > "$work/drawn"
   "$CSVTABLE" crates/csvtable/data/ledger.csv | cmp - "$work/drawn"
 }
 
-# dpkg in an empty root, in which it needs no rights of an administrator.
+# Runs dpkg in an empty root, for which it needs no rights of an administrator.
 dpkg_in() {
   PATH=$PATH:/usr/sbin:/sbin dpkg --root="$root" --log=/dev/null --force-not-root "$@"
 }
 
-# A Debian package is installed into a root in which the C library alone is, draws a table, and leaves nothing when it is removed.
+# A Debian package is installed into a root that has only the C library. It must draw a table there. When it is removed, nothing of
+# it may stay.
 try_debian() {
   root=$(mktemp -d "$work/root.XXXXXX")
   mkdir -p "$root/var/lib/dpkg/info" "$root/var/lib/dpkg/updates"
@@ -99,7 +102,8 @@ project() {
   printf '%s\n' "$3" > "$work/$1/src/$2"
 }
 
-# A table of a crate that depends on comfy-table has the type of the program's, if [patch.crates-io] names the package.
+# If [patch.crates-io] names the package, the tables of another crate that depends on comfy-table must have the same type as the
+# program's tables.
 try_patch() {
   project between lib.rs 'pub fn table() -> comfy_table::Table { comfy_table::Table::new() }' <<END
 [dependencies]
@@ -118,7 +122,8 @@ END
   echo "the package takes the place of comfy-table in two crates"
 }
 
-# By the form of the README, a project has the package on this target and the original on others. Here the original is empty.
+# With the lines of the README, a project uses the package on this target, and the original on others. Here the original is an
+# empty crate.
 try_targets() {
   project comfy-table lib.rs '' < /dev/null
   project anywhere lib.rs "$(sed -n '/^```rust,ignore/,/^```$/p' packages/rust/README.md | grep -v '^```')" <<END
@@ -131,7 +136,7 @@ END
   echo "a project has the package on one target and the original on another one"
 }
 
-# A build says why it fails: another target, no library, a feature that isn't there.
+# A build must say why it fails: it is for another target, the library is missing, or there is no such feature.
 try_refusals() {
   refused() { # WORDS COMMAND..
     words=$1
@@ -148,7 +153,7 @@ try_refusals() {
   (cd "$work/crate" && COMFY_C="$work/csv" cargo check -q --offline && COMFY_C="$work/csv" cargo doc -q --offline)
 }
 
-# csvtable, from its archive, and from its Debian package by dpkg; if that isn't there, the package is only unpacked.
+# csvtable, from its archive, and from its Debian package by dpkg. If dpkg isn't installed, the package is only unpacked.
 mkdir "$work/prefix" "$work/programs"
 tar -C "$work/prefix" --strip-components=1 -xzf "$work"/packages/csvtable-*-linux-x86_64.tar.gz
 try_csvtable "$work/prefix"
@@ -182,7 +187,7 @@ if command -v cargo > /dev/null; then
   tried="$tried, Rust"
   mkdir -p "$work/crate" "$work/project/src/bin"
   tar -C "$work/crate" --strip-components=1 -xzf "$work"/packages/*.crate
-  # The examples call the package by the name of the original, as programs do that were written for it.
+  # The examples call the package by the name of the original, as programs do that were written for the original.
   cp packages/rust/examples/*.rs "$work/project/src/bin"
   sed -i 's/comfy_table_proved/comfy_table/' "$work"/project/src/bin/*.rs
   cat > "$work/project/Cargo.toml" <<END
@@ -214,7 +219,7 @@ if command -v python3 > /dev/null; then
   "$work/venv/bin/pip" install -q --no-index --disable-pip-version-check "$work"/packages/*-manylinux*_x86_64.whl
   compare_csv "$work/venv/bin/python" packages/python/examples/draw_csv.py
   "$work/venv/bin/python" -m unittest discover -s packages/python/tests
-  # The stored answers of the package tabulate are compared with what it says, if Debian's Python has it.
+  # If Debian's Python has the package tabulate, the stored answers of tabulate are compared with its present answers.
   if /usr/bin/python3 -c 'import tabulate' 2> /dev/null; then
     tried="$tried, tabulate"
     installed=$("$work/venv/bin/python" -c 'import sysconfig; print(sysconfig.get_path("platlib"))')
@@ -234,7 +239,7 @@ fi
 # Other targets, as far as they run here.
 tools/try/other_targets.sh "$work/packages"
 
-# An installer takes a wheel by its tag alone, so it says what the library asks of the system.
+# An installer chooses a wheel by its tag alone. So the tag has to name what the library needs of the system.
 case $(ls "$work/packages") in
   *manylinux_2_*) ;;
   *) echo "the wheel has no tag of manylinux" >&2; exit 1 ;;

@@ -1,5 +1,5 @@
 #!/usr/bin/env python3
-"""Makes 18 realistic files, and some that aren't text, and tries csvtable on them.
+"""Makes 18 realistic files, and some files that aren't text, and tries csvtable on them.
 
     tools/try/real_files.py PROGRAM             runs PROGRAM on each file, and checks its status, output and messages. Checks that
                                                 numbers and dates aren't broken at any width from 20 to 200. Runs each example of the
@@ -48,7 +48,7 @@ TSV = 'name\tnote\nscrew 5"\t5" long\nbolt\tflat\n'
 PREAMBLE = "Bank of Nowhere\nAccount 12\n\ndate,amount\n2026-05-02,-84.50\n2026-05-13,2500.00\n"
 
 
-# a number, or the characters of dates and times
+# a pattern for a number, or for the characters of dates and times
 WHOLE = re.compile(r"\(?[-+]?[$€£]?\d[\d,.]*(e[-+]?\d+)?\s?[%€$]?\)?|[-/:.TZ+ \d]*")
 
 
@@ -90,7 +90,7 @@ RUNS = [
     Run("preamble.csv", PREAMBLE, "--skip 3 -r amount --drop nothing", 1, said="preamble.csv: no column 'nothing'; there are 'date' and 'amount'"),
 ]
 
-# Files that aren't text, or not in the expected encoding, and arguments that help. The comparison doesn't use them.
+# Files that aren't text, or aren't in the expected encoding, and the arguments that help with each. --compare doesn't use them.
 ADVISED = [
     Run("bare.csv", BANK, "", 1, said="bare.csv: looks like UTF-16; try -e utf-16\n", encoding="utf-16-le", delimiter=";"),
     Run("bare.csv", BANK, "-e utf-16", drawn=["Bäckerei Müller"], encoding="utf-16-le", delimiter=";"),
@@ -112,7 +112,8 @@ OTHERS = [
 
 with open(os.path.join(TOP, "crates/csvtable/data/ledger.csv"), encoding="utf-8") as file:
     LEDGER = file.read()
-# More than --limit reads at first, and then bytes that aren't UTF-8. They aren't refused, because they needn't be read.
+# First more bytes than csvtable reads with --limit, and then bytes that aren't UTF-8. csvtable doesn't refuse the latter, because
+# it doesn't need to read them.
 BIG = b"id,name,x,y,z,last\n" + b"".join(b"%d,n%d,1,2,3,4\n" % (it, it) for it in range(9000)) + b"\xff\n"
 GIT = "git init -q; git config user.name Ann; git config user.email ann@localhost; echo '*.csv diff=csv' > .gitattributes; git add .; git commit -qm one; sed -i s/1,150/1,175/ ledger.csv"
 FILES = '[{"name": "a, b.txt", "size": 12}, {"name": "c", "size": 3000}]'
@@ -173,7 +174,7 @@ RECIPES = [
 
 
 def width_of(line):
-    """The terminal columns of a line. A character joined to an emoji takes none, and each of a flag's two letters one."""
+    """The terminal columns of a line. A character joined to an emoji takes none. Each of a flag's two letters takes one."""
     characters = [c for c, before in zip(line, " " + line) if before != "\u200d"]
     return sum(2 if unicodedata.east_asian_width(c) in "WF" else 1 for c in characters if unicodedata.category(c) not in ("Mn", "Me", "Cf"))
 
@@ -210,7 +211,7 @@ def rows_of(run):
 
 
 def broken_in(run, width, out):
-    """The broken fields in columns of numbers or dates. In expanded records, fields have to leave four columns for names."""
+    """The broken fields in columns of numbers or dates. In expanded records, fields must leave four columns for names."""
     columns = itertools.zip_longest(*rows_of(run)[1:], fillvalue="")
     fields = [it for column in columns if all(len(it) <= 25 and WHOLE.fullmatch(it) for it in column) for it in column]
     room = width - 7 - 4 if out.startswith("record ") else width
@@ -294,7 +295,7 @@ def tried_recipe(program, recipe):
 
 
 def tried_examples(program):
-    """The number of examples of the man page whose output differs, or that are missing here."""
+    """The number of examples of the man page whose output differs, and of examples that this file lacks."""
     untried = {command for command, _ in examples()} ^ {it.command for it in RECIPES}
     for command in sorted(untried):
         print(f"{command}: only the man page or only this file has it")
@@ -309,7 +310,7 @@ PROGRAMS = {
     "column -ts,": ["column", "-t", "-s", ","],
 }
 
-# The commands of these programs with an option that suits a file. Those of csvtable are in RUNS.
+# For each of these programs, commands with an option that suits a file. The commands of csvtable are in RUNS.
 SUITING = {
     "csvlook -I": {
         "bank.csv": ["csvlook", "-I", "-e", "cp1252"],
@@ -344,8 +345,8 @@ def lost_in(run, out):
 
 
 def seen_of(run, result, whole, has_frame=True):
-    """The faults that a person sees in a drawing, "right" if there are none, or the reason why there is no drawing. `whole` is the
-    drawing without a width."""
+    """The faults that a person sees in a drawing, or "right" if there are none. If there is no drawing, it is the reason for that.
+    `whole` is the drawing without a width."""
     if result.returncode:
         return "refused: " + said_in(result)
     out, whole = result.stdout.decode(errors="replace"), whole.stdout.decode(errors="replace")

@@ -1,13 +1,16 @@
 /*
  * Refuses each request for memory of a program in turn: refuse INPUT PROGRAM [WORD]..
  *
- * It runs PROGRAM with these words on the file INPUT, and refuses its first request. The next run has its second request refused,
- * and so on until a run makes no more requests. If a run ends in another way than the run before it, it prints `request N: status S,
- * B bytes, ERRORS`. S is the exit status, or 128 plus the signal that ended the run. A run is ended after a minute. B is the
- * number of bytes on standard output, and ERRORS the beginning of standard error. The last line is `refused in turn: N;` and
- * then, for each way, the number C of runs that ended in it: ` C status S, B bytes, ERRORS;`.
+ * It runs PROGRAM with these words on the file INPUT. In the first run the first request is refused, in the second run the second
+ * request, and so on until a run makes fewer requests. A run is ended after a minute. If a run ends in another way than the run
+ * before it, a line is printed: `request N: status S, B bytes, ERRORS`. S is the exit status, or 128 plus the number of the signal
+ * that ended the run. B is the number of bytes on standard output. ERRORS is the beginning of standard error.
  *
- * The library of refusing.c refuses the requests. It has to be beside this program, and has its name with `.so` added.
+ * The last line is `refused in turn: N;` with the number N of refused requests. After this it has ` C status S, B bytes, ERRORS;`
+ * for each way in which runs ended. C is the number of runs that ended in this way.
+ *
+ * The shared library made from refusing.c refuses the requests. Its file has to be in the same folder as this program, with the
+ * program's name and `.so` after it.
  */
 #include <fcntl.h>
 #include <stdio.h>
@@ -63,7 +66,7 @@ static void describe(int status, char text[LENGTH]) {
     snprintf(text, LENGTH, "status %d, %ld bytes, %s", code, length_of(OUTPUT), said);
 }
 
-/* Runs the program, and returns true if it made the request, which was refused then. */
+/* Runs the program, with one request refused. Returns true if the program made this request. */
 static int is_refused(char **words, long request, char text[LENGTH]) {
     int status = 0;
     for (int file = 0; file < FILES; file++)
@@ -75,7 +78,7 @@ static int is_refused(char **words, long request, char text[LENGTH]) {
     return length_of(REFUSED) > 0;
 }
 
-/* Returns the way with a text, and adds it after the others if it is new. */
+/* Returns the way that a text describes. A new way is added after the others. */
 static struct way *way_of(struct way **at, const char *text) {
     while (*at && strcmp((*at)->text, text)) at = &(*at)->next;
     if (!*at) {

@@ -1,18 +1,19 @@
 #!/bin/sh
 # Refuses each request for memory of four programs in turn, and checks how each run ends:
 #  - ctable and csvtable on their stored inputs, with and without arguments, and test_cases on two of its cases. A run must end
-#    with status 1, no output and a message that memory ran out. Or it must print as many bytes as with enough memory, because
-#    `collect` asks for room for all values, and if that is refused, for one.
-#  - test_refused on each of its calls. A run must print that the call was refused as promised, or end with status 3 and no output
-#    if the request isn't one of the call. After a call that adds three rows, it must also print the number of kept rows. That is
-#    0 at first, and 1 and 2 as later requests are refused.
+#    with status 1, no output and a message that memory ran out. Or it must print as many bytes as with enough memory. The latter
+#    is allowed because `collect` first asks for room for all values, and if this is refused, for room for one value.
+#  - test_refused on each of its calls. A run must print that the call was refused as promised. If the refused request isn't made
+#    by the call, the run must end with status 3 and no output. After a call that adds three rows, it must also print the number of
+#    kept rows. This is 0 if an early request is refused, and 1 and 2 if later requests are.
 #
-# format_row must make fewer than 250 requests for 100 pieces, also of wide texts, of styled cells and of cut cells. That is two
-# for each piece and its line or its cell, and a few more. arrange_content must make the same number for 1,000 rows as for one.
+# format_row must make fewer than 250 requests for 100 pieces, also of wide texts, of styled cells and of cut cells. There are two
+# requests for each piece and its line or cell, and a few more. arrange_content must make the same number of requests for 1,000
+# rows as for one row.
 #
 # usage: tools/try/refused_requests.sh
-# Programs that aren't built yet are proved and built first. CC is the compiler for C, or cc if it isn't set. It compiles refuse.c,
-# which runs the programs, with the GNU C library, with which they are linked.
+# Programs that aren't built yet are proved and built first. CC is the compiler for C, by default cc. It compiles refuse.c, which
+# runs the programs, with the GNU C library. The programs are linked with that library too.
 set -u
 tools=$(cd "$(dirname "$0")" && pwd) || exit 2
 crates=$(cd "$tools/../../crates" && pwd) || exit 2

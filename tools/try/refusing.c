@@ -1,6 +1,6 @@
 /*
- * Refuses one request for memory of a program that loads this library by LD_PRELOAD: the one with the number in the variable
- * REFUSED_REQUEST, counted from 1. It writes a byte to file 9 then.
+ * Refuses one request for memory of a program that loads this library by LD_PRELOAD. The variable REFUSED_REQUEST has the number
+ * of this request, counted from 1. When the library refuses the request, it writes a byte to file 9.
  *
  * A request is a call of malloc, calloc or realloc after the program was loaded. The GNU C library answers all other requests.
  */
@@ -12,7 +12,7 @@ void *__libc_malloc(size_t size);
 void *__libc_calloc(size_t count, size_t size);
 void *__libc_realloc(void *block, size_t size);
 
-/* The number of requests up to the one to refuse, or 0 if none will be refused any more. */
+/* The number of requests up to and including the one to refuse, or 0 if none will be refused any more. */
 static long left;
 
 __attribute__((constructor)) static void start(void) {

@@ -3,9 +3,9 @@
 
     tools/try/same_bytes.py csvtable|ctable OLD NEW [FIRST] COUNT
 
-OLD and NEW are two builds of the program in files with the same name, because the help has the file's name. An input is made from
-each of COUNT numbers, from FIRST or 0 on. Outputs, messages and statuses are compared. The status is 1 after a difference. The
-run ends after six differences. 1,000 inputs take about ten seconds.
+OLD and NEW are two builds of the program. Their files need the same name, because the help has this name in it. An input is made
+from each of COUNT numbers, which begin with FIRST or with 0. Outputs, messages and statuses are compared. The status is 1 if there
+is a difference. The run ends after six differences. 1,000 inputs take about ten seconds.
 """
 import random
 import subprocess
@@ -40,7 +40,7 @@ def text_of(draw):
 
 
 def field_of(draw, kind):
-    """A field of a column's kind: a whole number, a number with a decimal point, a date or a text."""
+    """A random field of this kind: a whole number, a number with a decimal point, a date or a text."""
     if kind == 0:
         return str(draw.randint(-999, 99999))
     if kind == 1:

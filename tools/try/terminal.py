@@ -3,10 +3,10 @@
 
     tools/try/terminal.py PROGRAM
 
-PROGRAM is the command that tools/install.sh installs, PREFIX/bin/csvtable. For a built program, the tries with widths of
-terminals are left out. Each try has arguments, an input and an environment. Standard input, output and error are terminals or
-not. Checked are the widths of lines, bold headers, statuses, the stream of each text, and characters that control the terminal.
-A line is printed for each try, and the status is 1 if one differs.
+PROGRAM is the command that tools/install.sh installs, PREFIX/bin/csvtable. It can also be a built program, but then the tries with
+widths of terminals are left out. Each try has arguments, an input and an environment. In each try, some of standard input, output
+and error are terminals. The widths of lines, bold headers, statuses, the stream of each text, and characters that control the
+terminal are checked. A line is printed for each try, and the status is 1 if one differs.
 """
 import os
 import pty
@@ -25,7 +25,7 @@ failed = 0
 
 
 def terminal(columns=0):
-    """The two ends of a new terminal that doesn't change lines. With 0 columns, it doesn't know its width."""
+    """The two ends of a new terminal, which doesn't change lines. If `columns` is 0, the terminal has no known width."""
     ours, theirs = pty.openpty()
     termios.tcsetwinsize(theirs, (24, columns))
     settings = termios.tcgetattr(theirs)
@@ -119,7 +119,8 @@ def widths():
 
 
 def sizes():
-    """The widths of terminals, which the installed command asks for: called directly, by a link, and by a path with spaces."""
+    """Tries widths of terminals, which the installed command asks for. It is called directly, by a link, and by a path with
+    spaces."""
     text = "name,text\n" + ("a,%s\n" % ("x" * 320)) * 3
     for columns, width in ((40, 40), (80, 80), (120, 120), (200, 200), (0, 80)):
         status, out, err = run(text=text, columns=columns)
@@ -147,7 +148,7 @@ def sizes():
 
 
 def resized():
-    """One terminal, with another size in each run."""
+    """Tries a terminal that has another size in each run."""
     ours, theirs = terminal()
     environment = {name: it for name, it in os.environ.items() if name not in ("COLUMNS", "NO_COLOR")}
     for columns in (120, 60, 90):
@@ -165,7 +166,7 @@ def resized():
 
 
 def waits():
-    """The input comes from a terminal, which gets a message about it."""
+    """Tries an input that comes from a terminal. The terminal gets a message about this."""
     said = "csvtable: reading from the terminal; end with Ctrl-D\n"
     for arguments in ([], ["-"]):
         ours, theirs = terminal(80)
@@ -190,7 +191,7 @@ def waits():
 
 
 def blank():
-    """A terminal that shows nothing gets a message, and a pipe doesn't."""
+    """Tries inputs for which nothing is drawn. A terminal then gets a message, and a pipe doesn't."""
     for arguments, text, message in (
         ([], "", "csvtable: standard input: no records\n"),
         ([], "\n\n", "csvtable: standard input: no records\n"),

@@ -3,8 +3,9 @@
 
     tools/try/words.py CSVTABLE [COUNT] [SEED]
 
-CSVTABLE is the program. The rule is written apart from the program, from docs/CSVTABLE.md: what each column needs at least, with
-the words of names or with those of fields too. Each word of a file is there once, so that a cut word isn't found in the drawing.
+CSVTABLE is the program. The rule is how many terminal columns each column needs at least, so that the words of names, or also the
+words of fields, are whole. It is written here a second time, from docs/CSVTABLE.md. A file has each word only once, so a cut word
+isn't found in the drawing.
 """
 import random
 import subprocess
@@ -14,7 +15,7 @@ LEAST, NAME, WHOLE = 8, 20, 40
 
 
 def need(name, fields, is_numeric, with_fields):
-    """How many terminal columns a column needs for its content."""
+    """The number of terminal columns that a column needs for its content."""
     content = max(len(text) for text in [name, *fields])
     if content <= LEAST:
         return max(1, content)
@@ -46,7 +47,7 @@ def column(random, used, rows):
 
 
 def fault(program, random):
-    """What is wrong of a random file, or nothing; and whether words of fields had room."""
+    """The fault in the drawing of a random file, or nothing. With it, true if the words of fields had room."""
     used, rows = [], random.randint(1, 3)
     columns = [column(random, used, rows) for _ in range(random.randint(1, 5))]
     width = random.randint(20, 200)
@@ -60,7 +61,7 @@ def fault(program, random):
         return f"{command}: records are expanded, or not, at a least width of {total(False)}\n" + "\n".join(lines) + "\n" + drawing, False
     has_room = total(True) <= width
     for name, fields, is_numeric in columns if is_table else []:
-        # an aligned decimal point leaves digits as they are
+        # aligning decimal points doesn't change digits
         whole = fields if is_numeric else [word for field in fields for word in field.split(" ")] if has_room else []
         if not is_numeric and any(len(word) > WHOLE for word in whole):
             whole = []

@@ -1,5 +1,6 @@
 /*
- * Draws a report: a bold header, results in green and red, right-aligned seconds, and remarks in a column of at most 24:
+ * Draws a report. The header is bold, the results are green or red, and the seconds are right-aligned. The column of the remarks
+ * has at most 24 terminal columns:
  *
  * +----------+---------+--------+------------------------+
  * | check    | seconds | result | remark                 |

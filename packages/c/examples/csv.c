@@ -4,7 +4,7 @@
 
 #include <string.h>
 
-/* The arguments, each with its final zero byte, or no bytes if memory runs out. */
+/* Returns the arguments, with a zero byte after each, or a null start if memory runs out. */
 static struct bytes joined(char **arguments) {
     struct bytes all = {NULL, 0};
     for (char **argument = arguments; *argument; argument++) all.length += strlen(*argument) + 1;
@@ -23,7 +23,7 @@ int main(int count, char **given) {
     if (!input.start || !arguments.start) return 1;
     size_t needed = 4096 + 4 * input.length;
     uint32_t status;
-    /* Draws again if the room was too small for the drawing or the message. */
+    /* Calls again if the room was too small for the drawing or the message. */
     do {
         free(output.start);
         output.length = needed;

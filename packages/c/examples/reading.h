@@ -1,4 +1,4 @@
-/* Reads the inputs of the example programs. */
+/* Reading the inputs of the example programs. */
 #ifndef READING_H
 #define READING_H
 

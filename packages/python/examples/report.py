@@ -1,4 +1,4 @@
-"""Draws a report: a bold header, centred results in green and red, and remarks wrapped at 22 terminal columns:
+"""Draws a report. The header is bold, the results are centred and green or red, and remarks have at most 22 terminal columns:
 
 +----------+---------+--------+-----------------------+
 | check    | seconds | result | remark                |

@@ -143,7 +143,7 @@ row 1 of 1
 
 
 class Form(unittest.TestCase):
-    """Texts that have a meaning in files, but none in cells."""
+    """Texts that have a meaning in CSV files, but none in cells."""
 
     def test_marks_quotes_and_delimiters(self):
         self.assertEqual(
@@ -194,7 +194,7 @@ class Refused(unittest.TestCase):
         connection.row_factory = sqlite3.Row
         with self.assertRaises(ValueError):
             tabulate(connection.execute("select 1 as a, 2 as a").fetchall(), headers="keys")
-        # A cursor has the names in order.
+        # A cursor has the names of its columns in order.
         drawing = tabulate(connection.execute("select 1 as a, 2 as a"), headers="keys", style="ascii")
         self.assertEqual(drawing, "+---+---+\n| a | a |\n+=======+\n| 1 | 2 |\n+---+---+")
 
@@ -281,7 +281,7 @@ class Tables(unittest.TestCase):
 
 
 class Snippets(unittest.TestCase):
-    """Calls that people write for tabulate."""
+    """Calls as people write them for the package tabulate."""
 
     maxDiff = None
 
@@ -354,7 +354,7 @@ class Snippets(unittest.TestCase):
 """)
 
     def test_gaps_between_columns(self):
-        # The library draws another character for a gap if a text has the first one.
+        # If a text has the character that the library draws for gaps, another character is used for them.
         self.assertEqual(tabulate([["\ue000", "\ue001"]], tablefmt="plain"), "\ue000  \ue001")
         lines = tabulate([["one two three four", "five six seven"]], tablefmt="simple", width=17).split("\n")
         self.assertEqual(max(map(len, lines)), 17)
@@ -593,7 +593,7 @@ class Settings(unittest.TestCase):
 │ rye ┆            ┆   12.5 │
 └─────┴────────────┴────────┘
 """)
-        # A least and a greatest width hold within that of the table, and numbers stay whole.
+        # Least and greatest widths of columns hold within the table's width, and numbers stay whole.
         self.expect(tabulate(rows, mincolwidths={0: 6}, maxcolwidths={1: 12}, width=28, row_lines=False), """
 ╭────────┬──────────┬──────╮
 │ oats   ┆ two      ┆  3   │
@@ -837,7 +837,7 @@ PIECES = [
 ]
 VALUES = [None, 0, -7, 12345678901234567890, 2.5, -0.125, 1e300, float("nan"), True, "", "12", "-12.80"]
 
-# Settings and the same options of csvtable. One of each line is chosen.
+# Settings, and options of csvtable with the same effect. From each line, one pair is chosen.
 CHOICES = [
     [({}, []), ({"width": 30}, ["-w", "30"]), ({"width": 80}, ["-w", "80"]), ({"width": 60, "full": True}, ["-w", "60", "--full"])],
     [({}, ["--expanded", "never"]), ({}, ["--expanded", "never"]), ({"expanded": True}, ["-x"]), ({"expanded": "auto"}, [])],
@@ -859,7 +859,7 @@ def random_rows(chance):
 
 
 def random_settings(chance):
-    """Random settings, and the same options of csvtable."""
+    """Random settings, and options of csvtable with the same effect."""
     chosen = [MARKDOWN] if chance.random() < 0.1 else [chance.choice(line) for line in CHOICES]
     settings = {name: value for asked, _ in chosen for name, value in asked.items()}
     return settings, [word for _, words in chosen for word in words]
@@ -874,7 +874,7 @@ def csv_of(rows):
     written = io.StringIO()
     csv.writer(written).writerows(row or [""] for row in rows)
     text = written.getvalue()
-    # A first byte-order mark is dropped.
+    # csvtable drops a byte-order mark at the beginning of a file, so a text that begins with one gets a second one.
     return "\ufeff" + text if text.startswith("\ufeff") else text
 
 

@@ -1,4 +1,5 @@
-"""Tests with calls of the package tabulate. Each drawing equals the stored one of tabulate, or differs as TABULATE.md says."""
+"""Tests with calls of the package tabulate. Each drawing equals the stored drawing of tabulate, or differs from it as TABULATE.md
+says."""
 
 import json
 import random
@@ -22,7 +23,7 @@ def ours(call):
 
 
 def ours_with_wider_columns(call):
-    """The drawing of a call if each column is two wider than its header, as in tabulate."""
+    """The drawing of a call. Each column is at least two terminal columns wider than its header, as in tabulate."""
 
     def tabulate(*arguments, **settings):
         table = comfy_table_proved.Table(*arguments, **settings)
@@ -47,7 +48,7 @@ KINDS = {
 
 
 def random_call(chance):
-    """A random call to which no row of the page applies. Each column and each row has a value."""
+    """A random call to which no row of TABULATE.md applies. Each column and each row has a value."""
     kinds = [chance.choice([*KINDS.values()]) for _ in range(chance.randint(1, 4))]
     rows = [[chance.choice(kind) for kind in kinds] for _ in range(chance.randint(1, 4))]
     has_lines = any("\n" in str(value) for row in rows for value in row)
@@ -116,7 +117,7 @@ class Tabulate(unittest.TestCase):
 
 
 class Readers(unittest.TestCase):
-    """Other programs read the cells of a drawing."""
+    """Tests in which other programs read the cells of a drawing."""
 
     def cells_by(self, program, *arguments, rows=ROWS, tablefmt):
         if not shutil.which(program):

@@ -1,4 +1,4 @@
-//! Prints bikes. In a terminal the table has at most its width, and has colours.
+//! Prints a table of bikes. In a terminal it has colours, and is at most as wide as the terminal.
 use comfy_table_proved::presets::UTF8_FULL;
 use comfy_table_proved::{Attribute, Cell, CellAlignment, Color, ContentArrangement, Table};
 

@@ -1,4 +1,4 @@
-//! Prints boats, those with a leak in red:
+//! Prints a table of boats, in which each `yes` is red:
 //!
 //! ╭───────┬────────┬──────╮
 //! │ boat  ┆ metres ┆ leak │

@@ -25,7 +25,7 @@ pub struct Cell {
 }
 
 impl Cell {
-    /// Makes a cell with the text that a value prints, and no settings.
+    /// Makes a cell without settings. Its text is what the value's `to_string` returns.
     ///
     /// ```
     /// use comfy_table_proved::Cell;
@@ -37,7 +37,7 @@ impl Cell {
         Cell::new_owned(content.to_string())
     }
 
-    /// Makes a cell with this text, which isn't copied, and no settings.
+    /// Makes a cell without settings that has this text. The text is moved into the cell, and not copied.
     pub fn new_owned(content: String) -> Cell {
         Cell {
             text: Text::Own(content),
@@ -57,7 +57,8 @@ impl Cell {
         self.text.to_string()
     }
 
-    /// Sets the delimiter, the character at which long lines may break, in place of the column's or the table's.
+    /// Sets the cell's delimiter: the character at which its long lines may break. It takes precedence over the delimiter of the
+    /// column and that of the table.
     ///
     /// ```
     /// use comfy_table_proved::{Cell, ContentArrangement, Table};
@@ -76,7 +77,7 @@ impl Cell {
         Cell { delimiter: Some(delimiter), ..self }
     }
 
-    /// Sets the alignment of the text, in place of the column's.
+    /// Sets the alignment of the text. It takes precedence over the column's alignment.
     ///
     /// ```
     /// use comfy_table_proved::{Cell, CellAlignment, Table};
@@ -90,7 +91,9 @@ impl Cell {
         Cell { alignment: Some(alignment), ..self }
     }
 
-    /// Sets the colour of the text. It is written if [`should_style`](crate::Table::should_style) is true, so not into a file.
+    /// Sets the colour of the text. The colour is written only if [`Table::should_style`](crate::Table::should_style) returns
+    /// true: if the output is a terminal, or after [`Table::enforce_styling`](crate::Table::enforce_styling). No colour is written
+    /// if the environment variable `NO_COLOR` is set and not empty.
     ///
     /// ```
     /// use comfy_table_proved::{Attribute, Cell, Color, Table};
@@ -105,7 +108,7 @@ impl Cell {
         Cell { foreground: Some(color), ..self }
     }
 
-    /// Sets the colour of the background.
+    /// Sets the colour of the background. It is written under the same conditions as the colour of [`fg`](Cell::fg).
     ///
     /// ```
     /// use comfy_table_proved::{Cell, Color, Table};
@@ -120,7 +123,8 @@ impl Cell {
         Cell { background: Some(color), ..self }
     }
 
-    /// Adds an attribute, such as bold, after those that the cell has.
+    /// Adds an attribute, such as bold, to the attributes of the cell. Attributes are written only if
+    /// [`Table::should_style`](crate::Table::should_style) returns true.
     ///
     /// ```
     /// use comfy_table_proved::{Attribute, Cell, Table};
@@ -137,7 +141,7 @@ impl Cell {
         self
     }
 
-    /// Adds attributes, in their order, after those that the cell has.
+    /// Adds several attributes, as [`add_attribute`](Cell::add_attribute) adds one.
     #[cfg(feature = "tty")]
     #[must_use]
     pub fn add_attributes(mut self, attributes: Vec<Attribute>) -> Cell {
@@ -152,7 +156,7 @@ impl<T: ToString> From<T> for Cell {
     }
 }
 
-/// The cells of a row. They are made from anything that iterates over cells, or over values with `Display`.
+/// The cells of a row. Anything that iterates over cells, or over values with `Display`, can be converted to them.
 ///
 /// ```
 /// use comfy_table_proved::Cells;

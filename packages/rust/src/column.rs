@@ -1,6 +1,6 @@
 use crate::style::{CellAlignment, ColumnConstraint};
 
-/// The settings of a column. A table makes its columns when a header or rows are added.
+/// The settings of a column. When a header or a row is added to a table, the table makes the columns that the cells need.
 ///
 /// ```
 /// use comfy_table_proved::{ColumnConstraint, Table, Width};
@@ -13,7 +13,8 @@ use crate::style::{CellAlignment, ColumnConstraint};
 /// ```
 #[derive(Clone, Debug)]
 pub struct Column {
-    /// A number for the caller's use. The column's cells are found by its position in the table, and not by this number.
+    /// A number for the caller's use. The table doesn't read it: a column's cells are found by the position of the column in the
+    /// table.
     pub index: usize,
     pub(crate) padding: (u16, u16),
     pub(crate) delimiter: Option<char>,
@@ -22,12 +23,14 @@ pub struct Column {
 }
 
 impl Column {
-    /// Makes a column with a padding of one terminal column on each side, and no other setting.
+    /// Makes a column with a padding of one terminal column on each side, and no other setting. The field [`index`](Column::index)
+    /// gets the given number.
     pub fn new(index: usize) -> Column {
         Column { index, padding: (1, 1), delimiter: None, cell_alignment: None, constraint: None }
     }
 
-    /// Sets the padding: the number of free terminal columns at the left and at the right of each text.
+    /// Sets the padding. The first number is how many terminal columns are free at the left of each text. The second number is how
+    /// many are free at the right. 0 means none.
     ///
     /// ```
     /// use comfy_table_proved::Table;
@@ -55,13 +58,14 @@ impl Column {
         left.saturating_add(right)
     }
 
-    /// Sets the delimiter, the character at which long lines may break, in place of the table's.
+    /// Sets the column's delimiter: the character at which its long lines may break. It takes precedence over the table's
+    /// delimiter. The delimiter of a cell takes precedence over the column's.
     pub fn set_delimiter(&mut self, delimiter: char) -> &mut Column {
         self.delimiter = Some(delimiter);
         self
     }
 
-    /// Sets the constraint on the width, in place of the one that the column has.
+    /// Sets the constraint on the width of the column. It replaces an earlier constraint.
     ///
     /// ```
     /// use comfy_table_proved::{ColumnConstraint, Table, Width};
@@ -88,12 +92,12 @@ impl Column {
         self
     }
 
-    /// Returns true if the constraint is [`ColumnConstraint::Hidden`], so that the column isn't drawn.
+    /// Returns true if the column isn't drawn, because its constraint is [`ColumnConstraint::Hidden`].
     pub fn is_hidden(&self) -> bool {
         self.constraint == Some(ColumnConstraint::Hidden)
     }
 
-    /// Sets the alignment of the texts. The alignment of a cell takes precedence.
+    /// Sets the alignment of the column's texts. The alignment of a cell takes precedence over it.
     ///
     /// ```
     /// use comfy_table_proved::{CellAlignment, Table};

@@ -3,8 +3,8 @@ use std::slice;
 use crate::cell::Cell;
 use crate::row::Row;
 
-/// An iterator over the cells of a column, with `None` for a row that has no cell there.
-/// [`Table::column_cells_iter`](crate::Table::column_cells_iter) makes it.
+/// An iterator over the cells of a column, from the top, without the header. For a row that has no cell in the column, the item is
+/// `None`. [`Table::column_cells_iter`](crate::Table::column_cells_iter) makes it.
 pub struct ColumnCellIter<'a> {
     rows: slice::Iter<'a, Row>,
     column: usize,
@@ -25,10 +25,11 @@ impl<'a> Iterator for ColumnCellIter<'a> {
     }
 }
 
-/// An iterator over the cells of a column, with that of the header first, or `None` without a header.
-/// [`Table::column_cells_with_header_iter`](crate::Table::column_cells_with_header_iter) makes it.
+/// An iterator over the cells of a column. The first item is the cell of the header. It is `None` if there is no header, or if the
+/// header has no cell in the column. The next items are those of [`ColumnCellIter`].
+/// [`Table::column_cells_with_header_iter`](crate::Table::column_cells_with_header_iter) makes this iterator.
 pub struct ColumnCellsWithHeaderIter<'a> {
-    // the item of the header, until it was returned
+    // the item for the header, or `None` after it was returned
     header: Option<Option<&'a Cell>>,
     rows: ColumnCellIter<'a>,
 }

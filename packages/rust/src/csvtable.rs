@@ -21,14 +21,19 @@ use crate::library::{self, CsvAnswer};
 
 /// Draws CSV with the arguments of the program csvtable, for example `&["-r", "price", "-w", "60"]`.
 ///
-/// The encoding of the input is UTF-8, another one that csvtable recognises, or the one that `-e` names. No file is opened: a file
-/// name among the arguments only appears in messages. The table has a width only if `-w` sets one. The drawing ends with a line
-/// feed.
+/// The input has the encoding that the option `-e` names. Without this option it has UTF-8, or another encoding that csvtable
+/// recognises.
+///
+/// No file is opened. A file name among the arguments names the input in messages. If it ends with `.tsv` or `.tab`, TABs may
+/// separate fields.
+///
+/// The table has a greatest width only if the option `-w` sets one. The drawing ends with a line feed.
 ///
 /// # Errors
 ///
-/// [`Error::Arguments`] if csvtable refuses the arguments, or if they ask for its help or version, which is the message then;
-/// [`Error::Input`] if it can't draw the input; [`Error::OutOfMemory`].
+/// - [`Error::Arguments`] if the arguments are refused. If they ask for csvtable's help or version, the error has that text.
+/// - [`Error::Input`] if the input can't be drawn.
+/// - [`Error::OutOfMemory`] if memory runs out.
 ///
 /// ```
 /// let drawing = comfy_table_proved::csvtable::draw_csv("name,price\noats,3\n", &["-r", "name", "-s", "ascii"]).unwrap();

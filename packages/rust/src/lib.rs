@@ -1,6 +1,7 @@
 //! Tables drawn as text, with the calls of the crate comfy-table 8.0.1.
 //!
-//! It is proved that the library of this package draws by written rules. The code of the package itself is tested, but not proved.
+//! The package calls a library. It is proved that this library draws tables by written rules. The Rust code of the package is
+//! tested, but not proved.
 //!
 //! ```
 //! use comfy_table_proved::{Table, presets::UTF8_FULL};
@@ -15,7 +16,8 @@
 //! └──────┴────────┘");
 //! ```
 //!
-//! A program that uses comfy-table can use this package in its place. One line of its Cargo.toml changes, and none of its code:
+//! A program that uses comfy-table can use this package instead. Only one line of the program's Cargo.toml changes, and nothing in
+//! its code:
 //!
 //! ```toml
 //! comfy-table = { package = "comfy_table_proved", path = "../comfy_table_proved-0.1.0" }
@@ -23,27 +25,33 @@
 //!
 //! # What tables can do
 //!
-//! - **Width**: [`Table::set_width`] sets a width, which otherwise is the terminal's. With a dynamic [`ContentArrangement`], a table is
-//!   at most or exactly that wide, and its long texts are wrapped.
-//! - **Columns**: a [`ColumnConstraint`] fixes or limits the width of a [`Column`], or hides it. Each column has its own padding.
+//! - **Width**: [`Table::set_width`] sets the width of a table. Without this call it is the width of the terminal. With
+//!   [`ContentArrangement::Dynamic`] a table is at most that wide, and with [`ContentArrangement::DynamicFullWidth`] exactly
+//!   that wide. Long texts are wrapped.
+//! - **Columns**: a [`ColumnConstraint`] fixes or limits the width of a [`Column`], or hides the column. Each column has its own
+//!   padding, which is the free space beside its texts.
 //! - **Alignment** of texts, for a column or for one [`Cell`]: [`CellAlignment`].
-//! - **Wrapping** at spaces, or at another character: [`Table::set_delimiter`]. [`Row::max_height`] limits the lines of a row.
+//! - **Wrapping** at spaces, or at another character: [`Table::set_delimiter`]. [`Row::max_height`] limits the number of lines of
+//!   a row.
 //! - **Frames**: thirteen [`presets`], or your own characters in a [`TableStyle`].
 #![cfg_attr(
     feature = "tty",
     doc = "- **Colours and attributes** of a cell: [`Cell::fg`], [`Cell::bg`] and [`Cell::add_attribute`]."
 )]
-//! - **Unicode**: a Chinese character or an emoji takes two terminal columns, and a combining character none. Lines are cut between
-//!   characters as readers see them.
-//! - **Values**: cells come from anything with [`Display`](std::fmt::Display), and rows from anything that iterates over such values.
-//! - **CSV and numbers**: the module [`csvtable`] draws CSV text, and rows whose columns of numbers are right-aligned, with their
-//!   decimal points below each other.
+//! - **Unicode**: a Chinese character or an emoji takes two terminal columns, and a combining character none. Lines are cut
+//!   between characters as readers see them, for example not between a letter and its accent.
+//! - **Values**: a cell can be made from any value with [`Display`](std::fmt::Display). A row can be made from anything that
+//!   iterates over such values.
+//! - **CSV and numbers**: the module [`csvtable`] draws CSV text, and rows of values. Columns of numbers are right-aligned, with
+//!   their decimal points below each other.
 //!
 //! # Features of Cargo
 //!
-//! - `tty`, on by default: colours and attributes are written, and the width of the terminal is found.
-//! - `custom_styling`: escape sequences for colours and attributes (SGR) in texts take no columns. It includes `tty`.
-//! - `_debug` and `_integration_test` do nothing. `reexport_crossterm` ends the build with a message.
+//! - `tty`, which is on by default: colours and attributes are written, and tables use the width of the terminal.
+//! - `custom_styling`: escape sequences for colours and attributes (SGR) in texts take no terminal columns. This feature turns on
+//!   `tty`.
+//! - `_debug` and `_integration_test` do nothing. They exist because comfy-table has them.
+//! - `reexport_crossterm` ends the build with a message, because `Color` and `Attribute` are this package's own types.
 #![warn(missing_docs)]
 
 #[cfg(feature = "reexport_crossterm")]

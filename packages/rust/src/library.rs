@@ -1,5 +1,5 @@
-//! The functions of the library for C, as comfy_table.h declares them. Nothing compares these declarations with the library that
-//! is linked.
+//! The functions of the library for C, as comfy_table.h declares them. Nothing checks that these declarations match the library
+//! that is linked.
 
 pub mod numbers;
 
@@ -54,7 +54,7 @@ unsafe extern "C" {
     ) -> u32;
 }
 
-// What a call returns, besides 1 if the room was too small.
+// The results of a call. There is also 1, which means that the room for the drawing was too small.
 const DRAWN: u32 = 0;
 const INPUT_REFUSED: u32 = 2;
 const OUT_OF_MEMORY: u32 = 3;
@@ -72,12 +72,13 @@ pub struct CellTable {
     pub columns: Vec<Column>,
 }
 
-/// The drawing of a table of cells. Its lengths and counts add up, and all settings are those of comfy_table.h, so memory alone
-/// can be refused. If the drawing has more bytes than the room, it is made twice.
+/// Draws a table of cells. The only error is that memory runs out, because the lengths and counts of this package's tables add up,
+/// and all their settings are in comfy_table.h. `room` is the number of bytes that are allocated for the drawing. If the drawing
+/// has more bytes, it is made twice.
 pub fn draw_cells(table: &CellTable, indicator: &str, settings: &CellsSettings, room: usize) -> Result<String, OutOfMemory> {
     let (status, drawing) = written(room, |output, room, needed| {
-        // SAFETY: the pointers and lengths are those of slices and vectors, which are borrowed for the call and don't overlap, and
-        // of the room for its output. The function asks nothing else of its arguments.
+        // SAFETY: each pointer and length belongs to a slice or a vector that is borrowed for the call, or to the room for the
+        // output. None of these overlap. The function demands nothing else of its arguments.
         unsafe {
             comfy_cells_draw(
                 table.texts.as_ptr(),
@@ -105,13 +106,14 @@ pub fn draw_cells(table: &CellTable, indicator: &str, settings: &CellsSettings, 
 #[derive(Clone, Debug, Default)]
 pub struct Texts {
     pub joined: String,
-    /// How many bytes each text has.
+    /// The number of bytes of each text.
     pub lengths: Vec<usize>,
-    /// How many texts each row has.
+    /// The number of texts of each row.
     pub counts: Vec<usize>,
 }
 
-/// The drawing of rows of texts, with settings for each column that is there. As above, memory alone can be refused.
+/// Draws rows of texts. `columns` has the settings of each column that a row has. As in `draw_cells`, the only error is that
+/// memory runs out.
 pub fn draw_rows(texts: &Texts, columns: &[RowsColumn], settings: &RowsSettings) -> Result<String, OutOfMemory> {
     let room = room_for(texts.joined.len() + 8 * texts.lengths.len());
     let (status, drawing) = written(room, |output, room, needed| {
@@ -141,14 +143,14 @@ pub fn draw_rows(texts: &Texts, columns: &[RowsColumn], settings: &RowsSettings)
     Ok(drawing)
 }
 
-/// What comes of CSV and of arguments of csvtable: a drawing, or what csvtable says.
+/// The answer for CSV and arguments of csvtable. It is a drawing, or csvtable's message about the input or about the arguments.
 pub enum CsvAnswer {
     Drawing(String),
     OfInput(String),
     OfArguments(String),
 }
 
-/// Draws CSV, by arguments each of which ends with a zero byte.
+/// Draws CSV with arguments of csvtable. A zero byte ends each argument.
 pub fn draw_csv(input: &[u8], arguments: &str) -> Result<CsvAnswer, OutOfMemory> {
     let (status, text) = written(room_for(input.len()), |output, room, needed| {
         // SAFETY: as above.
@@ -161,13 +163,14 @@ pub fn draw_csv(input: &[u8], arguments: &str) -> Result<CsvAnswer, OutOfMemory>
     })
 }
 
-// Room that most drawings of an input of this size fit.
+// A number of bytes that is enough for most drawings of an input with `size` bytes.
 fn room_for(size: usize) -> usize {
     size.saturating_mul(4).saturating_add(4096)
 }
 
-// What a call returns and writes, into this room or else into as much as it needs. Pages of the room that stay unused cost
-// nothing. If there is no such room, the first call only finds out how much is needed.
+// Returns the result of a call, and the text that it writes. `room` is the number of bytes allocated for the text. If the text
+// needs more, a second call gets as many bytes as it needs. Memory pages of the room that stay unused cost nothing. If the room
+// can't be allocated, the first call only finds out how many bytes are needed.
 fn written(room: usize, mut call: impl FnMut(*mut u8, usize, &mut usize) -> u32) -> Result<(u32, String), OutOfMemory> {
     let mut output = Vec::new();
     let _ = output.try_reserve_exact(room);

@@ -3,7 +3,7 @@ use std::slice;
 use crate::cell::{Cell, Cells};
 use crate::text;
 
-/// The cells of a row, and its greatest height.
+/// The cells of a row, and the greatest number of lines that are drawn of it.
 ///
 /// ```
 /// use comfy_table_proved::{Cell, Row};
@@ -15,7 +15,7 @@ use crate::text;
 #[derive(Clone, Debug, Default)]
 pub struct Row {
     pub(crate) cells: Vec<Cell>,
-    // the greatest number of lines, at least 1
+    // the greatest number of lines that are drawn, at least 1, or `None` for no limit
     pub(crate) max_height: Option<usize>,
 }
 
@@ -25,15 +25,15 @@ impl Row {
         Row::default()
     }
 
-    /// Adds a cell after the others. If the row already is in a table that has no column for the cell, the cell isn't drawn before
-    /// [`discover_columns`](crate::Table::discover_columns) was called.
+    /// Adds a cell after the others. A row that is already in a table can get more cells than the table has columns. The cells
+    /// without a column aren't drawn until [`discover_columns`](crate::Table::discover_columns) is called.
     pub fn add_cell(&mut self, cell: Cell) -> &mut Row {
         self.cells.push(cell);
         self
     }
 
-    /// Sets the greatest number of lines of the row. A longer text is cut, and ends with the table's
-    /// [truncation indicator](crate::Table::set_truncation_indicator). 0 counts as 1.
+    /// Sets the greatest number of lines that are drawn of this row. A text with more lines is cut, and then ends with the table's
+    /// [truncation indicator](crate::Table::set_truncation_indicator). 0 counts as 1. Without this call there is no limit.
     ///
     /// ```
     /// use comfy_table_proved::{Row, Table};

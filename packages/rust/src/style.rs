@@ -18,19 +18,21 @@ pub use table_style::{ContentLineStyle, LineStyle, TableStyle};
 /// ```
 #[derive(Clone, Copy, Debug, PartialEq, Eq, Hash)]
 pub enum CellAlignment {
-    /// At the left, as without an alignment.
+    /// At the left. A text without an alignment is there too.
     Left,
     /// At the right.
     Right,
-    /// In the middle. If the free space is odd, the greater part of it is before the text.
+    /// In the middle. If the number of free terminal columns is odd, there is one more before the text than after it.
     Center,
 }
 
 /// A constraint on the width of a column. Widths include the column's paddings.
 ///
-/// [`Table::set_constraints`](crate::Table::set_constraints) sets those of several columns, and
-/// [`Column::set_constraint`](crate::Column::set_constraint) that of one. [`ContentArrangement::DynamicFullWidth`] widens all
-/// columns, also those with a constraint, if the table would be narrower than its width otherwise.
+/// [`Table::set_constraints`](crate::Table::set_constraints) sets the constraints of several columns, and
+/// [`Column::set_constraint`](crate::Column::set_constraint) the constraint of one column.
+///
+/// Under [`ContentArrangement::DynamicFullWidth`], a table may be narrower than its width at first. Then all columns are widened,
+/// also those with a constraint.
 #[derive(Clone, Copy, Debug, PartialEq, Eq)]
 pub enum ColumnConstraint {
     /// The column isn't drawn.
@@ -89,8 +91,8 @@ pub enum ColumnConstraint {
     /// +------+--------+");
     /// ```
     LowerBoundary(Width),
-    /// The column has at most this width. Under `Disabled`, or if the table's width isn't known, the constraint is ignored unless
-    /// a text without paddings is wider than it.
+    /// The column has at most this width. There is an exception under [`ContentArrangement::Disabled`], and also if the table's
+    /// width isn't known. The constraint is ignored then, unless a text is wider than this width even without its paddings.
     ///
     /// ```
     /// use comfy_table_proved::{ColumnConstraint::*, Table, Width::*};
@@ -104,7 +106,8 @@ pub enum ColumnConstraint {
     /// +----+-------------+");
     /// ```
     UpperBoundary(Width),
-    /// The column has at least the width `lower`, as by `LowerBoundary`, and at most `upper`, as by `UpperBoundary`.
+    /// The column has at least the width `lower`, and at most the width `upper`. `lower` works as the width of `LowerBoundary`,
+    /// and `upper` as the width of `UpperBoundary`.
     ///
     /// ```
     /// use comfy_table_proved::{ColumnConstraint::*, Table, Width::*};
@@ -129,10 +132,10 @@ pub enum ColumnConstraint {
 /// The width of a column, including its paddings.
 #[derive(Clone, Copy, Debug, PartialEq, Eq)]
 pub enum Width {
-    /// A number of terminal columns.
+    /// The width is this number of terminal columns.
     Fixed(u16),
-    /// A percentage of the table's width without its borders. More than 100 counts as 100. If the table has no known
-    /// [width](crate::Table::width), the constraint is ignored.
+    /// The width is this percentage of the table's width without its borders. More than 100 counts as 100. If the table's
+    /// [width](crate::Table::width) isn't known, the constraint is ignored.
     ///
     /// ```
     /// use comfy_table_proved::{ColumnConstraint::*, ContentArrangement, Table, Width::*};
@@ -150,11 +153,12 @@ pub enum Width {
 
 /// The rule by which columns get their widths.
 ///
-/// [`Table::set_content_arrangement`](crate::Table::set_content_arrangement) sets it. The table's width is the one of
-/// [`Table::set_width`](crate::Table::set_width), or else that of the terminal.
+/// [`Table::set_content_arrangement`](crate::Table::set_content_arrangement) sets it.
+/// [`Table::set_width`](crate::Table::set_width) sets the table's width. Without that call it is the width of the terminal.
 #[derive(Clone, Debug)]
 pub enum ContentArrangement {
-    /// Each column is as wide as its widest text, unless it has a constraint. The table's width wraps no text. A new table has this.
+    /// Each column is as wide as its widest text, unless it has a constraint. No text is wrapped to fit the table's width. A new
+    /// table has this arrangement.
     ///
     /// ```
     /// use comfy_table_proved::Table;
@@ -167,8 +171,8 @@ pub enum ContentArrangement {
     /// +----+------------------------+");
     /// ```
     Disabled,
-    /// The table is at most as wide as its width, and texts are wrapped for it. Columns with short texts stay narrow. If no width is
-    /// known, this is as `Disabled`.
+    /// The table is at most as wide as the table's width, and texts are wrapped to fit it. Columns with short texts stay narrow.
+    /// If the table's width isn't known, this works as `Disabled`.
     ///
     /// ```
     /// use comfy_table_proved::{ContentArrangement, Table};
@@ -182,7 +186,7 @@ pub enum ContentArrangement {
     /// +----+-------------+");
     /// ```
     Dynamic,
-    /// As `Dynamic`, but a narrower table is widened to the width. If no width is known, this is as `Disabled`.
+    /// As `Dynamic`, but a narrower table is widened to the table's width. If this width isn't known, this works as `Disabled`.
     ///
     /// ```
     /// use comfy_table_proved::{ContentArrangement, Table};

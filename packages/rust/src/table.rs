@@ -21,10 +21,10 @@ use crate::terminal;
 
 /// A table: a header, rows of cells below it, columns, and settings.
 ///
-/// `Display`, [`lines`](Table::lines) and [`trim_fmt`](Table::trim_fmt) draw it. A new header or row makes the columns that its
-/// cells need. Rows may have different lengths, and a missing cell is drawn as an empty one.
+/// `Display`, [`lines`](Table::lines) and [`trim_fmt`](Table::trim_fmt) draw it. When a header or a row is added, the table makes
+/// the columns that the cells need. Rows may have different numbers of cells. A missing cell is drawn as an empty cell.
 ///
-/// If memory runs out, the process ends, as it does for a `Vec`.
+/// If memory runs out while the table is drawn, the process ends, as it does if a `Vec` gets no memory.
 ///
 /// ```
 /// use comfy_table_proved::{ContentArrangement, Table};
@@ -54,7 +54,7 @@ pub struct Table {
     terminal: Terminal,
 }
 
-// The settings about the terminal, and the answer of the system.
+// The settings about the terminal. `is_there` keeps the system's answer.
 #[cfg(feature = "tty")]
 #[derive(Clone, Debug, Default)]
 struct Terminal {
@@ -73,12 +73,13 @@ enum Form {
     Lines,
     /// The lines without white space at their ends, with line feeds between them.
     Trimmed,
-    /// The width of each column's contents, each with a line feed after it.
+    /// The width of each column's contents in terminal columns: decimal numbers, each with a line feed after it.
     ContentWidths,
 }
 
 impl Table {
-    /// Makes a table without header and rows. It has the style [`ASCII_FULL`], and [`ContentArrangement::Disabled`].
+    /// Makes a table without header and rows. Its style is [`ASCII_FULL`], and its arrangement is
+    /// [`ContentArrangement::Disabled`].
     ///
     /// ```
     /// use comfy_table_proved::Table;
@@ -106,7 +107,8 @@ impl Table {
 
 /// Drawings.
 impl Table {
-    /// Draws the table without white space at the ends of its lines. Styles without a right border have such white space.
+    /// Returns the drawing without white space at the ends of its lines. In styles without a right border, lines otherwise end
+    /// with white space.
     ///
     /// ```
     /// use comfy_table_proved::{Table, presets::NOTHING};
@@ -120,8 +122,8 @@ impl Table {
         self.drawn(Form::Trimmed)
     }
 
-    /// Returns the lines of the drawing, from the top, without line feeds. The whole table is drawn by this call, before the first
-    /// line is read.
+    /// Returns the lines of the drawing, from the top, without line feeds. This call draws the whole table, before the first line
+    /// is read.
     ///
     /// ```
     /// use comfy_table_proved::Table;
@@ -141,8 +143,8 @@ impl Table {
         })
     }
 
-    /// Returns the width of the widest text line of each column, without paddings, in terminal columns. A width above 65535 counts
-    /// as 65535, and a column with a cell has at least 1.
+    /// Returns a number for each column: the width of the widest line of its texts, in terminal columns, without paddings. The
+    /// header's texts count too. A width above 65535 is returned as 65535. A column with a cell has a width of at least 1.
     ///
     /// ```
     /// use comfy_table_proved::Table;
@@ -169,7 +171,7 @@ impl Table {
 
 /// Header, rows and columns.
 impl Table {
-    /// Sets the header, and makes missing columns for its cells. A new table has none.
+    /// Sets the header, and makes the columns that its cells need. A new table has no header.
     ///
     /// ```
     /// use comfy_table_proved::Table;
@@ -195,8 +197,8 @@ impl Table {
         self.header.as_ref()
     }
 
-    /// Adds a row below the others, and makes missing columns for its cells. A row is anything that iterates over values with
-    /// `Display`, or a [`Row`].
+    /// Adds a row below the others, and makes the columns that its cells need. The row is a [`Row`], or anything that iterates
+    /// over values with `Display`.
     ///
     /// ```
     /// use comfy_table_proved::{Cell, CellAlignment, Row, Table};
@@ -214,7 +216,8 @@ impl Table {
         self
     }
 
-    /// Adds a row if the predicate is true. The predicate gets the number of rows so far, and the row.
+    /// Adds a row if the predicate returns true. Its arguments are the number of rows that the table has without the header, and
+    /// the row.
     ///
     /// ```
     /// use comfy_table_proved::Table;
@@ -260,8 +263,8 @@ impl Table {
         self
     }
 
-    /// Adds all the given rows if the predicate is true, and none otherwise. The predicate gets the number of rows so far, and the
-    /// given rows.
+    /// Adds all the given rows if the predicate returns true, and none of them otherwise. Its arguments are the number of rows
+    /// that the table has without the header, and the given rows.
     ///
     /// ```
     /// use comfy_table_proved::Table;
@@ -305,7 +308,7 @@ impl Table {
         self.rows.get(index)
     }
 
-    /// Returns the row at a position, as [`row`](Table::row) does, to change it.
+    /// Returns a mutable reference to the row at a position, counted from 0 below the header, or `None` if there are fewer rows.
     ///
     /// ```
     /// use comfy_table_proved::Table;
@@ -335,7 +338,7 @@ impl Table {
         self.rows.iter()
     }
 
-    /// Returns an iterator over the rows, without the header, to change them.
+    /// Returns an iterator over mutable references to the rows, without the header.
     ///
     /// ```
     /// use comfy_table_proved::Table;
@@ -351,7 +354,7 @@ impl Table {
         self.rows.iter_mut()
     }
 
-    /// Returns the number of columns, after a call of [`discover_columns`](Table::discover_columns).
+    /// Calls [`discover_columns`](Table::discover_columns), and then returns the number of columns.
     ///
     /// ```
     /// use comfy_table_proved::Table;
@@ -370,7 +373,7 @@ impl Table {
         self.columns.get(index)
     }
 
-    /// Returns the column at a position, as [`column`](Table::column) does, to change it.
+    /// Returns a mutable reference to the column at a position, counted from 0, or `None` if there are fewer columns.
     ///
     /// ```
     /// use comfy_table_proved::{CellAlignment, Table};
@@ -391,7 +394,7 @@ impl Table {
         self.columns.iter()
     }
 
-    /// Returns an iterator over the columns, from the left, to change them.
+    /// Returns an iterator over mutable references to the columns, from the left.
     ///
     /// ```
     /// use comfy_table_proved::Table;
@@ -407,8 +410,8 @@ impl Table {
         self.columns.iter_mut()
     }
 
-    /// Returns an iterator over the cells of a column, from the top, without the header. It gives one item for each row, which is
-    /// `None` if the row has no cell in this column.
+    /// Returns an iterator over the cells of a column, from the top, without the header. There is one item for each row. It is
+    /// `None` if the row has no cell in this column. The argument is the position of the column, counted from 0.
     ///
     /// ```
     /// use comfy_table_proved::{Cell, Table};
@@ -422,7 +425,8 @@ impl Table {
         ColumnCellIter::new(&self.rows, column_index)
     }
 
-    /// Returns an iterator over the cells of a column, with that of the header first. The first item is `None` without a header.
+    /// Returns an iterator over the cells of a column, which begins with the cell of the header. The first item is `None` if there
+    /// is no header, or if the header has no cell in this column. The argument is the position of the column, counted from 0.
     ///
     /// ```
     /// use comfy_table_proved::{Cell, Table};
@@ -436,8 +440,8 @@ impl Table {
         ColumnCellsWithHeaderIter::new(self.header.as_ref(), &self.rows, column_index)
     }
 
-    /// Makes missing columns, so that each cell of each row has one. Call it after adding cells to rows that are in the table
-    /// already. Cells without a column aren't drawn.
+    /// Makes the columns that are missing, so that each cell of each row has a column. Call this after adding cells to a row that
+    /// is already in the table, because cells without a column aren't drawn.
     ///
     /// ```
     /// use comfy_table_proved::{Cell, Table};
@@ -490,7 +494,7 @@ impl Table {
         self.style
     }
 
-    /// Returns the style, to change it.
+    /// Returns a mutable reference to the style.
     ///
     /// ```
     /// use comfy_table_proved::Table;
@@ -503,7 +507,7 @@ impl Table {
         &mut self.style
     }
 
-    /// Sets how the columns get their widths. A new table has [`ContentArrangement::Disabled`].
+    /// Sets the rule by which columns get their widths. A new table has [`ContentArrangement::Disabled`].
     ///
     /// ```
     /// use comfy_table_proved::{ContentArrangement, Table};
@@ -517,17 +521,22 @@ impl Table {
         self
     }
 
-    /// Returns how the columns get their widths.
+    /// Returns the rule by which columns get their widths.
     pub fn content_arrangement(&self) -> ContentArrangement {
         self.arrangement.clone()
     }
 
-    /// Sets the width of the table, in terminal columns, in place of the terminal's width.
+    /// Sets the width of the table, in terminal columns. Without this call it is the width of the terminal, if the output is a
+    /// terminal.
     ///
-    /// The [`ContentArrangement`] decides what the width does. [`Dynamic`](ContentArrangement::Dynamic) makes the table at most that
-    /// wide, and [`DynamicFullWidth`](ContentArrangement::DynamicFullWidth) exactly that wide. Under
-    /// [`Disabled`](ContentArrangement::Disabled), which a new table has, texts aren't wrapped to fit the table, so the width
-    /// doesn't change them. It is only what a [`Width::Percentage`](crate::Width::Percentage) refers to.
+    /// The [`ContentArrangement`] decides what the width does:
+    ///
+    /// - [`Dynamic`](ContentArrangement::Dynamic): the table is at most that wide.
+    /// - [`DynamicFullWidth`](ContentArrangement::DynamicFullWidth): the table is exactly that wide.
+    /// - [`Disabled`](ContentArrangement::Disabled), which a new table has: no text is wrapped to fit the table. Only a
+    ///   [`Width::Percentage`](crate::Width::Percentage) depends on the width.
+    ///
+    /// In the first two arrangements, 0 gives the narrowest table that the columns allow.
     ///
     /// ```
     /// use comfy_table_proved::{ContentArrangement, Table};
@@ -547,21 +556,22 @@ impl Table {
         self
     }
 
-    /// Returns the width of the table in terminal columns: the one that was set, or else that of the terminal. It is `None` if no
-    /// width was set and the output isn't a terminal ([`is_tty`](Table::is_tty)), or has no known width.
+    /// Returns the width of the table, in terminal columns. This is the width that [`set_width`](Table::set_width) has set. If
+    /// none was set, it is the width of the terminal. `None` means that no width was set, and that the output isn't a terminal
+    /// ([`is_tty`](Table::is_tty)) or the terminal's width isn't known.
     #[cfg(feature = "tty")]
     pub fn width(&self) -> Option<u16> {
         self.width.or_else(|| if self.is_tty() { terminal::columns() } else { None })
     }
 
-    /// Returns the width of the table in terminal columns, or `None` if none was set.
+    /// Returns the width that [`set_width`](Table::set_width) has set, in terminal columns, or `None` if none was set.
     #[cfg(not(feature = "tty"))]
     pub fn width(&self) -> Option<u16> {
         self.width
     }
 
-    /// Sets the constraints of the first columns, one for each. Constraints without a column are ignored, so call this after a
-    /// header or a row was added.
+    /// Sets the constraints of the first columns: the first constraint for the first column, and so on. Constraints for which
+    /// there is no column are ignored, so call this after a header or a row was added.
     ///
     /// ```
     /// use comfy_table_proved::{ColumnConstraint::*, Table, Width::*};
@@ -577,8 +587,8 @@ impl Table {
         self
     }
 
-    /// Sets the delimiter: the character at which long lines may break. In a new table it is a space. The delimiter of a column or
-    /// a cell takes precedence.
+    /// Sets the table's delimiter: the character at which long lines may break. In a new table it is a space. The delimiter of a
+    /// column or a cell takes precedence over the table's.
     ///
     /// ```
     /// use comfy_table_proved::{ContentArrangement, Table};
@@ -596,8 +606,8 @@ impl Table {
         self
     }
 
-    /// Sets the truncation indicator. It ends the last drawn line of a cell that [`Row::max_height`] cuts, in place of characters
-    /// for which the column has no room. In a new table it is `…`.
+    /// Sets the truncation indicator: a text that ends the last drawn line of a cell that [`Row::max_height`] cuts. If the column
+    /// has no room for it after that line, it replaces the line's last characters. In a new table it is `…`.
     ///
     /// ```
     /// use comfy_table_proved::{Row, Table};
@@ -637,8 +647,8 @@ impl Table {
 /// The terminal.
 #[cfg(feature = "tty")]
 impl Table {
-    /// Draws the table as if the output were no terminal: without the terminal's width, and without colours and attributes unless
-    /// [`enforce_styling`](Table::enforce_styling) was called.
+    /// Makes the table behave as if the output weren't a terminal. The width of the terminal isn't used. Colours and attributes
+    /// are written only after [`enforce_styling`](Table::enforce_styling).
     ///
     /// ```
     /// use comfy_table_proved::Table;
@@ -653,15 +663,16 @@ impl Table {
         self
     }
 
-    /// Makes [`is_tty`](Table::is_tty) ask whether standard error is a terminal, in place of standard output. Call it before the
-    /// table is drawn, because the first answer is kept.
+    /// Makes [`is_tty`](Table::is_tty) ask about standard error instead of standard output. Call this before the table is drawn,
+    /// because the system's first answer is kept.
     pub fn use_stderr(&mut self) -> &mut Table {
         self.terminal.is_at_stderr = true;
         self
     }
 
-    /// Returns true if the output is a terminal: standard output, or standard error after [`use_stderr`](Table::use_stderr). It is
-    /// false after [`force_no_tty`](Table::force_no_tty). The first answer of the system is kept.
+    /// Returns true if the output is a terminal. The output is standard output, or standard error after
+    /// [`use_stderr`](Table::use_stderr). After [`force_no_tty`](Table::force_no_tty) the result is always false. Otherwise the
+    /// system's first answer is kept.
     pub fn is_tty(&self) -> bool {
         let ask = || if self.terminal.is_at_stderr { io::stderr().is_terminal() } else { io::stdout().is_terminal() };
         !self.terminal.is_denied && *self.terminal.is_there.get_or_init(ask)
@@ -681,14 +692,14 @@ impl Table {
         self
     }
 
-    /// Returns true if colours and attributes are written: if the output is a terminal ([`is_tty`](Table::is_tty)), or after
-    /// [`enforce_styling`](Table::enforce_styling).
+    /// Returns true if colours and attributes are written. They are written if the output is a terminal
+    /// ([`is_tty`](Table::is_tty)), and after [`enforce_styling`](Table::enforce_styling).
     pub fn should_style(&self) -> bool {
         self.terminal.enforces_styling || self.is_tty()
     }
 
-    /// Writes colours and attributes around texts only. Otherwise they also cover the spaces beside a text, so a background fills
-    /// the whole cell.
+    /// Applies colours and attributes to texts only. Without this call they also apply to the spaces beside a text, so that a
+    /// background fills the whole cell.
     ///
     /// ```
     /// use comfy_table_proved::{Attribute, Cell, Table};

@@ -4,13 +4,14 @@ use std::env;
 use std::io;
 use std::sync::OnceLock;
 
-/// How many columns the terminal of the process has, or else the terminal of standard output.
+/// The width of the terminal that controls the process, in columns. If this width isn't known, it is the width of the terminal
+/// that standard output writes to. `None` means that neither width is known.
 pub fn columns() -> Option<u16> {
     let of_process = system::terminal().ok().and_then(|terminal| system::columns_of(&terminal));
     of_process.or_else(|| system::columns_of(&io::stdout()))
 }
 
-/// Whether NO_COLOR asks for no colours, when this is first called.
+/// True if the environment variable NO_COLOR was set and not empty when this was first called.
 pub fn is_without_colors() -> bool {
     static ANSWER: OnceLock<bool> = OnceLock::new();
     *ANSWER.get_or_init(|| env::var_os("NO_COLOR").is_some_and(|word| !word.is_empty()))
@@ -22,7 +23,7 @@ mod system {
     use std::io;
     use std::os::fd::{AsFd, AsRawFd};
 
-    // As Linux and macOS declare it.
+    // The size of a terminal's window, as Linux and macOS declare this struct.
     #[repr(C)]
     #[derive(Default)]
     struct WindowSize {
@@ -56,7 +57,8 @@ mod system {
     use std::io;
     use std::os::windows::io::{AsHandle, AsRawHandle, RawHandle};
 
-    // As Windows declares it. The window's four numbers are its left, top, right and bottom character.
+    // The state of a console, as Windows declares this struct. The four numbers of `window` are the positions of its left, top,
+    // right and bottom character.
     #[repr(C)]
     #[derive(Default)]
     struct ScreenBuffer {

@@ -5,10 +5,11 @@ use std::sync::Arc;
 
 use crate::cell::Cell;
 
-// How many cells a row has at least whose texts are joined. With fewer cells this takes more time than it saves.
+// The texts of a row are joined if it has at least this number of cells. With fewer cells, joining takes more time than it saves.
 const JOINED: usize = 5;
 
-/// The text of a cell: one of its own, or a part of the texts of the row that it was made for.
+/// The text of a cell. `Own` is a string of its own. `Part` is a range of bytes in a longer text, which joins the texts of all
+/// cells of a row.
 #[derive(Clone)]
 pub enum Text {
     Own(String),
@@ -56,8 +57,8 @@ impl fmt::Debug for Text {
     }
 }
 
-/// Moves the texts of a row's cells into one piece of memory, unless they are few. It is taken and freed faster than one for each
-/// cell, and the pieces that this frees are ready for the texts of the next row.
+/// Moves the texts of a row's cells into one allocation, if the row has at least `JOINED` cells. One allocation is made and freed
+/// faster than one for each cell. The allocations that this call frees can serve for the texts of the next row.
 pub fn join(cells: &mut [Cell]) {
     if cells.len() < JOINED {
         return;
@@ -83,7 +84,7 @@ pub fn push_all(joined: &mut String, cells: &[Cell]) {
     }
 }
 
-// The texts of cells in their order, if they were joined and no cell was added or changed.
+// The joined text of these cells, if their texts were joined and no cell was added or changed after that.
 fn joined_in(cells: &[Cell]) -> Option<&str> {
     let Text::Part { texts, .. } = &cells.first()?.text else {
         return None;

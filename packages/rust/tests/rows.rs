@@ -1,5 +1,5 @@
-//! Tests of `Rows`. Expected drawings are typed by hand. If CSVTABLE is set, it is the program csvtable. Random rows have to be
-//! drawn as that program draws them. They are written for it as CSV with few quotes.
+//! Tests of `Rows`. Expected drawings are typed by hand. If the variable CSVTABLE is set, it is the path of the program csvtable.
+//! Then random rows have to be drawn as that program draws them. For the program, the rows are written as CSV with few quotes.
 use comfy_table_proved::csvtable::{Error, Expanded, Rows, Style, draw_csv};
 use comfy_table_proved::presets;
 use std::io::Write;
@@ -251,7 +251,8 @@ impl Chance {
     }
 }
 
-// A field as other writers of CSV write it, with quotes if it needs them. A first byte-order mark without quotes is dropped.
+// A field as other programs write it into CSV, with quotes if it needs them. A byte-order mark at the beginning needs them too,
+// because readers drop it if it is without quotes at the beginning of a file.
 fn field(text: &str) -> String {
     let needs_quotes = text.is_empty() || text.starts_with('\u{feff}') || text.contains([',', '"', '\n', '\r']);
     if needs_quotes { format!("\"{}\"", text.replace('"', "\"\"")) } else { text.into() }

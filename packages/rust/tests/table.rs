@@ -143,7 +143,7 @@ fn a_cell_without_a_column_is_left_out() {
     assert_eq!(table.to_string(), "┌───┬──────┐\n│ a ┆ late │\n└───┴──────┘");
 }
 
-// A row of five cells or more keeps their texts in one piece.
+// A row of five cells or more keeps the texts of its cells in one allocation.
 #[test]
 fn a_long_row_has_the_texts_of_its_cells() {
     let mut row = Row::from(["a", "", "c\nd", "é", "e"]);

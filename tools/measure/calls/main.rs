@@ -1,7 +1,8 @@
-//! calls [WIDTH|- [styled]]: draws standard input by the original and by `Table`, `Rows` and `draw_csv` of the proved package, in
-//! one process, and compares the drawings. `draw_csv` gets the table as CSV. The best time of each is printed, of as many calls
-//! as the variable TIMES says, or of one. With ONLY=original, ONLY=table, ONLY=rows or ONLY=csv only one such call is made. With
-//! `styled`, a third of the cells are bold, green and right-aligned, and only the original and `Table` draw them.
+//! calls [WIDTH|- [styled]]: draws standard input in several ways in one process, and compares the drawings. The ways are the
+//! original, and `Table`, `Rows` and `draw_csv` of the proved package. `draw_csv` gets the table as CSV. For each way, the best
+//! time of some calls is printed. The variable TIMES is the number of these calls, by default one. With ONLY=original, ONLY=table,
+//! ONLY=rows or ONLY=csv, one call in this way is made, and nothing else. With `styled`, a third of the cells are bold, green and
+//! right-aligned. Then only the original and `Table` draw the table.
 use comfy_table_proved::csvtable::{Rows, Style, draw_csv};
 use std::io::{Read, stdin};
 use std::time::Instant;

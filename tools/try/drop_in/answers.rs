@@ -1,4 +1,4 @@
-// The drawings of a described table, and the results of reading from it. This file is included once for each library.
+// Draws a described table, and reads from it. This file is included twice, once for each library.
 
 /// Draws a table in each way.
 pub fn drawing(described: &Described) -> Drawing {
@@ -11,7 +11,7 @@ pub fn widths(described: &Described) -> Vec<u16> {
     table_of(described).column_max_content_widths()
 }
 
-/// Returns everything that can be read from a table, as lines of text. A function is applied to the texts of cells.
+/// Returns everything that can be read from a table, as lines of text. The function `text` is applied to the texts of cells.
 pub fn readings(described: &Described, text: fn(&str) -> String) -> String {
     let mut table = table_of(described);
     let content = |cell: &Cell| text(&cell.content());

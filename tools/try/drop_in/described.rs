@@ -43,12 +43,12 @@ pub struct DescribedColumn {
     pub padding: Option<(u16, u16)>,
     pub delimiter: Option<char>,
     pub alignment: usize,
-    /// The number of a constraint. Odd `widths` are in percent.
+    /// The number of a constraint. Odd numbers in `widths` are percentages, and even numbers are terminal columns.
     pub constraint: usize,
     pub widths: (u16, u16),
 }
 
-/// A preset, or a style of these characters if there is none, and changes of it.
+/// A preset, or if there is none, a style of these characters. After it, changes of this style.
 #[derive(Clone, Debug)]
 pub struct DescribedStyle {
     pub preset: Option<usize>,
@@ -80,7 +80,7 @@ impl Chance {
     }
 }
 
-/// Characters besides ASCII that all versions of unicode-width and unicode-segmentation measure and divide in the same way.
+/// Characters beyond ASCII that all versions of unicode-width and unicode-segmentation measure and divide in the same way.
 pub const UNDISPUTED: &str = "äßéΩжאقกあ年快乐한🍰✅…═│";
 
 const PIECES: [&str; 30] = [
@@ -91,7 +91,7 @@ const PIECES: [&str; 30] = [
 // Texts that some versions measure or divide differently.
 const DISPUTED: [&str; 8] = ["\t", "\r", "👩\u{200d}🚀", "क\u{94d}क", "\u{1b}[31m", "\0", "\u{fe0f}✔", "🇩🇪🇫"];
 
-// Escape sequences. They are only in texts with the feature custom_styling, with which they take no columns.
+// Escape sequences. Texts have them only with the feature custom_styling, because then they take no columns.
 const SEQUENCES: [&str; 5] = ["\u{1b}[31m", "\u{1b}[1m", "\u{1b}[0m", "\u{1b}[38;5;9m", "\u{1b}[4mlined\u{1b}[0m"];
 
 const DELIMITERS: [char; 6] = ['-', ' ', 'b', '年', ',', '\0'];
@@ -234,7 +234,7 @@ impl DescribedColumn {
 }
 
 impl DescribedStyle {
-    /// Returns true if a line of the style has a junction. Of the presets, only the last one has none.
+    /// Returns true if a line of the style has a junction. Of the presets, only the last one has no junction.
     pub fn has_junctions(&self) -> bool {
         let own = [2, 5, 9, 12, 16, 20].iter().any(|at| self.characters[*at].is_some());
         self.is_solid || self.preset.map_or(own, |number| number < 12)

@@ -5,8 +5,9 @@ use crate::shown::{Shown, Style, may_be_shown, shown_from, visible};
 use crate::{Drawing, original, proved};
 use std::panic::catch_unwind;
 
-/// A row of the page. `applies_to` is true for tables with the difference, and `remedy` changes such a table so that it has none.
-/// The original has to draw the changed table as the package draws the table itself, or the changed one if `changes` is `Both`.
+/// A row of docs/DIFFERENCES.md. `applies_to` is true for tables with the difference. `remedy` changes such a table so that it has
+/// no difference. The original has to draw the changed table as the package draws the unchanged table. If `changes` is `Both`, the
+/// package draws the changed table too.
 struct Row {
     name: &'static str,
     applies_to: fn(&Described) -> bool,
@@ -20,9 +21,11 @@ enum Changes {
     Both,
     /// `without_junctions` changes the drawing of the original.
     Lines,
-    /// The characters of both drawings are compared, and their styles except those of white space, instead of the sequences.
+    /// The characters of both drawings and their styles are compared, and not the sequences. The styles of white space aren't
+    /// compared.
     Sequences,
-    /// As `Original`, but only characters are compared. Each one of the package has to be in a style that a cell's text has.
+    /// As `Original`, but only characters are compared. Each character of the package's drawing has to have a style that a cell's
+    /// text has.
     Breaks,
 }
 
@@ -100,7 +103,8 @@ fn has_more_than_65535(column: &crate::described::DescribedColumn) -> bool {
     column.padding.is_some_and(|(left, right)| left == u16::MAX || right == u16::MAX)
 }
 
-// Removes the delimiters from each line in which nothing else is visible. Cells without a delimiter have that of any column.
+// Removes the delimiters from each line in which nothing else is visible. For a cell without a delimiter, the delimiters of all
+// columns count.
 fn without_delimiters_alone(described: &mut Described) {
     let columns = described.columns.iter().map(|column| column.delimiter);
     let shared: Vec<char> = columns.chain([described.delimiter, Some(' ')]).flatten().collect();
@@ -127,8 +131,8 @@ fn is_disputed(character: char) -> bool {
     !(' '..='~').contains(&character) && character != '\n' && !is_of_sequence && !UNDISPUTED.contains(character)
 }
 
-/// Returns the name of the row that explains the difference between both libraries for a table. If there is no difference, or
-/// several rows explain it together, it returns words that say so, and `None` if no rows explain it.
+/// Returns the name of the row that explains the difference between both libraries for a table. If there is no difference, or if
+/// several rows explain it together, the returned words say so. If no rows explain it, the result is `None`.
 pub fn between(described: &Described) -> Option<&'static str> {
     // With `custom_styling` the original closes and resumes sequences in the text of a cell.
     let text = if cfg!(feature = "custom_styling") { visible } else { str::to_owned };
@@ -176,7 +180,7 @@ fn are_explained(described: &Described, rows: &[&Row]) -> bool {
     are_styled && drawing == original && widths_are_explained(described, rows)
 }
 
-// True if each character of a drawing has a style that a cell's text can give it, or is of the frame or an indicator.
+// True if each character of a drawing has a style that a cell's text can give it, or belongs to the frame or to an indicator.
 fn are_styled_as(described: &Described, drawing: &Drawing) -> bool {
     let is_cut = described.headers.iter().chain(&described.rows).any(|row| row.max_height.is_some());
     let cells: Vec<&DescribedCell> = described.cells().collect();
@@ -198,8 +202,8 @@ fn own_style(described: &Described, cell: &DescribedCell) -> Style {
     shown.into_iter().find(|(character, _)| *character == 'x').expect("an x is drawn").1
 }
 
-// True if both libraries have the same widths. An empty cell has a width and a missing cell has none, so the tables aren't
-// changed by rows that add cells to the original's table only.
+// True if both libraries return the same widths of contents. Rows that add cells to the original's table only aren't applied here,
+// because an empty cell has a width, and a missing cell has none.
 fn widths_are_explained(described: &Described, rows: &[&Row]) -> bool {
     let (mut ours, mut theirs) = (described.clone(), described.clone());
     for row in rows {
@@ -231,7 +235,8 @@ impl Drawing {
     }
 }
 
-// Returns the original's drawing with the package's first and last line, if these only lack some of its spaces.
+// Returns the original's drawing. Its first and last line are replaced by those of the package, if the latter only lack some
+// spaces.
 fn without_junctions(mut original: Drawing, drawing: &Drawing) -> Drawing {
     if original.lines.len() != drawing.lines.len() {
         return original;
@@ -247,7 +252,7 @@ fn without_junctions(mut original: Drawing, drawing: &Drawing) -> Drawing {
     original
 }
 
-// True if a line is another one without some of its spaces.
+// True if `line` is `other` without some of its spaces.
 fn lacks_spaces(line: &str, other: &str) -> bool {
     let mut left = line.chars().peekable();
     let are_spaces = other.chars().all(|character| left.next_if_eq(&character).is_some() || character == ' ');

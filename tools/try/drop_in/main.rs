@@ -1,6 +1,6 @@
 //! drop_in COUNT [SEED]: draws COUNT random tables by comfy-table and by the proved package, and reads from them. Differences are
-//! counted by the rows of docs/DIFFERENCES.md that explain them. The first table with an unexplained difference is printed, and
-//! ends the run with a failure.
+//! counted by the rows of docs/DIFFERENCES.md that explain them. If no rows explain the difference of a table, the table is
+//! printed, and the run ends with a failure.
 mod described;
 mod differences;
 mod shown;
@@ -38,7 +38,7 @@ fn main() -> ExitCode {
     let mut arguments = std::env::args().skip(1).map(|word| word.parse().expect("a number"));
     let count: u64 = arguments.next().expect("COUNT");
     let seed: u64 = arguments.next().unwrap_or(1);
-    // Panics of the original are differences, so they print nothing.
+    // Panics of the original count as differences, so they needn't be printed.
     panic::set_hook(Box::new(|_| ()));
     let mut counts: BTreeMap<&str, u64> = BTreeMap::new();
     for number in 0..count {

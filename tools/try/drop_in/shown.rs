@@ -2,7 +2,7 @@
 
 use std::collections::BTreeMap;
 
-/// Colours and attributes, each with its parameters in a sequence. A missing one is the terminal's default.
+/// Colours and attributes, each with its parameters in an SGR sequence. If one is missing, it is the terminal's default.
 #[derive(Clone, Debug, Default, PartialEq)]
 pub struct Style(BTreeMap<&'static str, String>);
 
@@ -61,7 +61,7 @@ impl Style {
     }
 }
 
-// Returns the parameters of a colour after 38 or 48: a number below 256, or red, green and blue.
+// Returns the parameters of a colour after 38 or 48. They are a number below 256, or red, green and blue.
 fn color<'a>(words: &mut impl Iterator<Item = &'a str>) -> String {
     let kind = words.next().unwrap_or_default();
     let count = if kind == "2" { 3 } else { 1 };
@@ -83,7 +83,8 @@ pub fn shown_from(first: &Style, text: &str) -> Vec<Shown> {
 }
 
 /// Returns the characters that a drawing may show for a cell's text, with their styles. `own` is the style of the cell. Each line
-/// begins in that style, followed by the sequences since the last reset. A line that is cut by height has no sequences.
+/// begins in this style, changed by the sequences since the last reset. If a greatest height cuts a line, the line has no
+/// sequences.
 pub fn may_be_shown(own: &Style, text: &str, is_cut: bool) -> Vec<Shown> {
     let mut allowed = shown_from(own, text);
     let mut resumed = own.clone();
@@ -112,7 +113,8 @@ pub fn visible(text: &str) -> String {
     joined
 }
 
-// Calls a function with the parameters of each sequence, and the text up to the next one. The first text comes without parameters.
+// Calls a function for each sequence, with its parameters and the text up to the next sequence. The text before the first sequence
+// comes first, without parameters.
 fn each_part<'a>(text: &'a str, mut call: impl FnMut(Option<&'a str>, &'a str)) {
     let mut parts = text.split("\u{1b}[");
     call(None, parts.next().unwrap_or_default());

@@ -1,6 +1,6 @@
 /*
- * Prints results and drawings of the three functions for random calls, the same ones on every target: drawings [COUNT].
- * tools/try/other_targets.sh compares its output on other targets with that on Linux on x86-64.
+ * Prints the results and drawings of the three functions for random calls: drawings [COUNT]. The calls are the same on every
+ * target. tools/try/other_targets.sh compares the output on other targets with the output on Linux on x86-64.
  */
 #include "comfy_table.h"
 

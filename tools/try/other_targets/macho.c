@@ -1,6 +1,6 @@
 /*
- * Takes the functions of comfy_table.h from a shared library for macOS, which this loads on Linux on the same processor. It
- * tests the code in the file, and nothing of macOS. MACHO is the file's path.
+ * Loads a shared library for macOS on Linux on the same processor, and takes the functions of comfy_table.h from it. So the code
+ * in the library is tested, but nothing of macOS. MACHO is the path of the library's file.
  */
 #include <fcntl.h>
 #include <stdint.h>
@@ -10,7 +10,7 @@
 #include <sys/mman.h>
 #include <sys/stat.h>
 
-/* The parts of such a file that are read here, by Apple's headers loader.h, nlist.h and fixup-chains.h. */
+/* The parts of such a file that are read here, as Apple's headers loader.h, nlist.h and fixup-chains.h declare them. */
 struct header { uint32_t magic, processor, kind, type, commands, size, flags, reserved; };
 struct command { uint32_t number, size; };
 struct segment { uint32_t number, size; char name[16]; uint64_t address, room, offset, length; uint32_t rest[4]; };
@@ -49,7 +49,7 @@ static void repeat_16_bytes(char *at, const char *bytes, size_t length) {
     for (size_t done = 0; done < length; done++) at[done] = bytes[done % 16];
 }
 
-/* A function of macOS's C library by that of Linux. */
+/* A function of the C library of Linux, in place of the one of macOS. */
 static void *system_function(const char *name) {
     static const struct { const char *name; void *at; } known[] = {
         {"_malloc", malloc}, {"_realloc", realloc}, {"_free", free}, {"_memcpy", memcpy}, {"_memmove", memmove}, {"_memset", memset},

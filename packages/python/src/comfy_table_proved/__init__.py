@@ -1,6 +1,7 @@
 """Tables drawn as text by a proved library.
 
-It is proved that the library comfy_table draws by written rules. The code of this package is tested, but not proved.
+This package calls the library comfy_table. It is proved that the library draws by written rules. The package's own code is tested,
+but not proved.
 
     >>> from comfy_table_proved import tabulate
     >>> print(tabulate([["oats", 3], ["rye", -12.5]], headers=["name", "price"]))
@@ -11,9 +12,9 @@ It is proved that the library comfy_table draws by written rules. The code of th
     │ rye  ┆ -12.5 │
     ╰──────┴───────╯
 
-`tabulate` draws rows. `Table` keeps rows, so that more can be added. A `Cell` has its own colours and alignment. `draw_csv` draws
-CSV with the arguments of the program csvtable, and `python -m comfy_table_proved [OPTIONS] [FILE]` draws a file as that program
-does. All of them may be called from several threads.
+`tabulate` draws rows. `Table` keeps rows, so that more can be added. A `Cell` is a value with its own colours and alignment.
+`draw_csv` draws CSV with the arguments of the program csvtable. In a shell, `python -m comfy_table_proved [OPTIONS] [FILE]` draws
+a file as csvtable does. All functions may be called from several threads.
 """
 
 from ._library import draw_csv

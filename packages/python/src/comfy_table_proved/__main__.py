@@ -1,4 +1,7 @@
-"""Draws a CSV file, or standard input, as the program csvtable does: python -m comfy_table_proved [OPTIONS] [FILE]"""
+"""Draws a CSV file or standard input, as the program csvtable does.
+
+python -m comfy_table_proved [OPTIONS] [FILE]
+"""
 
 from __future__ import annotations
 
@@ -35,7 +38,10 @@ def _is_option(argument: str) -> bool:
 
 
 def _file_of(arguments: list[str]) -> str:
-    """The first argument that is neither an option nor its value, or "-" if there is none. csvtable refuses a second one."""
+    """The first argument that is neither an option nor an option's value.
+
+    If there is none, the result is "-". csvtable refuses a second such argument.
+    """
     valued = _with_values()
     words = iter(arguments)
     for word in words:
@@ -49,7 +55,10 @@ def _file_of(arguments: list[str]) -> str:
 
 
 def _takes_the_next(option: str, valued: set[str]) -> bool:
-    """True if the next argument is the option's value: after `--width` and `-w`, but not after `--width=60` and `-w60`."""
+    """True if the next argument is the option's value.
+
+    This is so after `--width` and `-w`, but not after `--width=60` and `-w60`.
+    """
     if option.startswith("--"):
         return option in valued
     letters = [f"-{letter}" for letter in option[1:]]
@@ -58,7 +67,10 @@ def _takes_the_next(option: str, valued: set[str]) -> bool:
 
 
 def _with_values() -> set[str]:
-    """The options that have values. csvtable's help shows them in the form `-w, --width <N>`."""
+    """The options that take values.
+
+    csvtable's help has them in the form `-w, --width <N>`.
+    """
     try:
         text = draw_csv(b"", ["-h"])
     except ValueError as error:
@@ -71,7 +83,11 @@ def _asks_for_text(arguments: list[str]) -> bool:
 
 
 def _of_terminal(arguments: list[str]) -> list[str]:
-    """The options for the terminal's width and a bold header, as csvtable has them in a terminal, unless others are given."""
+    """Options that make csvtable draw as it does in a terminal.
+
+    One is --width with the terminal's width, unless the arguments set a width or ask for Markdown. The other is --color=always,
+    unless the arguments have --color, or NO_COLOR is set and not empty. There are none if standard output isn't a terminal.
+    """
     if not sys.stdout.isatty():
         return []
     names = {it.split("=")[0] for it in arguments}

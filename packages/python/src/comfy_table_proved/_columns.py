@@ -12,25 +12,25 @@ Columns = Union[Column, Iterable[Column], None]
 Widths = Union[int, Sequence[Optional[int]], Mapping[Column, int], None]
 Padding = Union[int, tuple[int, int], Mapping[Column, Union[int, tuple[int, int]]]]
 
-# The sides of a column in comfy_table.h: by its contents, left, right, center. 3 hides a column.
+# The numbers of a column's sides in comfy_table.h: by its contents, left, right, center. The number 3 hides a column.
 BY_CONTENTS, LEFT, RIGHT, CENTER = 0, 1, 2, 4
 _SIDES = {None: BY_CONTENTS, "left": LEFT, "right": RIGHT, "decimal": RIGHT, "center": CENTER}
 
 
 class Layout:
-    """The columns of a table: their number, and their names if there is a header."""
+    """The number of a table's columns, and their names if it has a header."""
 
     def __init__(self, names: list[str], count: int) -> None:
         self._names, self._count = names, count
 
     def positions_of(self, columns: Columns) -> list[int]:
-        """The positions of one column or several ones."""
+        """The positions of a column or of several columns, counted from 0."""
         if columns is None:
             return []
         return [self._position_of(it) for it in ([columns] if isinstance(columns, (str, int)) else columns)]
 
     def chosen(self, columns: Columns, hidden: Columns) -> list[int]:
-        """The positions of the columns that are drawn, in order."""
+        """The positions of the columns that are drawn, in the order of drawing."""
         left_out = set(self.positions_of(hidden))
         positions = [it for it in self.positions_of(columns) or range(self._count) if it not in left_out]
         if not positions:
@@ -38,14 +38,20 @@ class Layout:
         return positions
 
     def numbers(self, sides: list[int], padding: Padding, widths: tuple[Widths, Widths, Widths]) -> list[ColumnNumbers]:
-        """The settings of each column. `widths` has the exact, the least and the greatest widths."""
+        """The settings of each column.
+
+        `widths` has three settings: the exact, the least and the greatest widths.
+        """
         columns = zip(self._paddings(padding), sides, self._limits(*widths))
         return [ColumnNumbers(*pair, side, *limits) for pair, side, limits in columns]
 
     def sides(
         self, left: Columns, right: Columns, center: Columns, colalign: Optional[Sequence[Optional[str]]], otherwise: int
     ) -> list[int]:
-        """The side of each column, or `otherwise` for a column without one."""
+        """The side of each column.
+
+        A column that no setting aligns has the side `otherwise`.
+        """
         sides = [side or otherwise for side in self._aligned(colalign)]
         asked: dict[int, int] = {}
         for side, columns in (LEFT, left), (RIGHT, right), (CENTER, center):
@@ -57,7 +63,10 @@ class Layout:
         return sides
 
     def _limits(self, colwidths: Widths, mincolwidths: Widths, maxcolwidths: Widths) -> list[tuple[int, int]]:
-        """The least and the greatest width of each column's texts, in terminal columns. An exact width is both; 0 is none."""
+        """The least and the greatest width of each column's texts.
+
+        Widths are in terminal columns, and 0 means no limit. For an exact width, both are that width.
+        """
         fixed, least = self._widths(colwidths, "colwidths"), self._widths(mincolwidths, "mincolwidths")
         limits: list[tuple[int, int]] = []
         for position, (width, low, high) in enumerate(zip(fixed, least, self._widths(maxcolwidths, "maxcolwidths"))):
@@ -69,7 +78,10 @@ class Layout:
         return limits
 
     def _widths(self, setting: Widths, name: str) -> list[int]:
-        """The widths of each column's texts in a setting, in terminal columns. 0 means none."""
+        """The width that a setting has for each column.
+
+        Widths are in terminal columns, and 0 means that the setting has no width for the column.
+        """
         widths = self._for_each(setting)
         for width in widths:
             if width is not None and not is_whole(width, 1, 65533):
@@ -77,12 +89,15 @@ class Layout:
         return [0 if width is None else int(width) for width in widths]
 
     def _paddings(self, padding: Padding) -> list[tuple[int, int]]:
-        """The number of free terminal columns at the left and at the right of each column's texts."""
+        """The left and the right padding of each column, in terminal columns."""
         asked = self._for_each(padding) if isinstance(padding, Mapping) else [padding] * self._count
         return [(1, 1) if it is None else _pair_of(it) for it in asked]
 
     def _for_each(self, setting: Any) -> list[Any]:
-        """The value of a setting for each column. A setting is a value for all, a list for the first ones, or a dict by columns."""
+        """The value of a setting for each column, or None if it has none.
+
+        A setting is one value for all columns, a list of values for the first columns, or a dict of values by column.
+        """
         if isinstance(setting, Mapping):
             found = {self._position_of(column): value for column, value in setting.items()}
             return [found.get(position) for position in range(self._count)]

@@ -1,4 +1,4 @@
-"""The functions of the library for C, which is beside this file."""
+"""The functions of the library for C, which is in the folder of this file."""
 
 from __future__ import annotations
 
@@ -14,7 +14,10 @@ _FILES = {"darwin": "libcomfy_table.dylib", "win32": "comfy_table.dll"}
 
 
 def _load() -> ctypes.CDLL:
-    """The library of this wheel. ImportError says so if the wheel is for another system."""
+    """Loads the library of this wheel.
+
+    ImportError is raised if the wheel is for another system.
+    """
     file = Path(__file__).with_name(_FILES.get(sys.platform, "libcomfy_table.so"))
     try:
         return ctypes.CDLL(str(file))
@@ -26,18 +29,18 @@ def _load() -> ctypes.CDLL:
 
 _LIBRARY = _load()
 
-# What a call returns. Its other numbers say that something was refused.
+# Two results of a call. 0 means that the table was drawn. Other results mean that something was refused.
 _ROOM_TOO_SMALL = 1
 _OUT_OF_MEMORY = 3
 
 _SIZE = ctypes.c_size_t
 _NUMBER = ctypes.c_uint32
 
-# Means that there is no limit.
+# In comfy_table.h this number means no limit.
 NO_LIMIT = 2**64 - 1
-# Means that there is no width, as each number above 65535 does.
+# In comfy_table.h this number means no width, as each number above 65535 does.
 NO_WIDTH = 2**32 - 1
-# The style of a frame of one's own.
+# The number of the style that has a frame of one's own.
 OWN_STYLE = 2**32 - 1
 
 
@@ -61,7 +64,7 @@ class _Frame(ctypes.Structure):
 
 
 class RowsSettings(ctypes.Structure):
-    """The settings of rows of texts, in the order of comfy_table.h."""
+    """The settings of a table of rows, in the order of comfy_table.h."""
 
     _fields_ = [
         ("max_height", _SIZE),
@@ -100,7 +103,10 @@ class _Column(ctypes.Structure):
 
 
 class Look(NamedTuple):
-    """The look of a text in comfy_table.h: a side, bits of attributes, and colours by their five numbers."""
+    """The look of a text, in numbers of comfy_table.h.
+
+    A colour is five numbers: kind, number, red, green and blue.
+    """
 
     alignment: int = 0
     attributes: int = 0
@@ -109,7 +115,11 @@ class Look(NamedTuple):
 
 
 class ColumnNumbers(NamedTuple):
-    """The fields of `struct comfy_rows_column` in comfy_table.h. Widths are in terminal columns, without paddings; 0 sets none."""
+    """The settings of a column: `struct comfy_rows_column` of comfy_table.h.
+
+    Paddings and widths are in terminal columns. `least` and `greatest` are the least and the greatest width, without paddings. 0
+    means no limit there.
+    """
 
     left_padding: int
     right_padding: int
@@ -119,7 +129,10 @@ class ColumnNumbers(NamedTuple):
 
 
 def _declared(name: str, arguments: list[Any]) -> Callable[..., int]:
-    """A function of comfy_table.h with these arguments before its output. Nothing compares this with the library."""
+    """A function of comfy_table.h, with these arguments before its output.
+
+    Nothing checks that the arguments match the function in the library.
+    """
     function = _LIBRARY[name]
     function.restype = _NUMBER
     function.argtypes = [*arguments, ctypes.c_char_p, _SIZE, ctypes.POINTER(_SIZE)]
@@ -133,13 +146,16 @@ _ROWS_DRAW = _declared("comfy_rows_draw", [*_BYTES, *_SIZES * 5, ctypes.POINTER(
 
 
 def draw_csv(data: str | bytes, arguments: Sequence[str] = ()) -> str:
-    """The drawing of CSV, by arguments of the program csvtable, such as ["-r", "price", "-w", "60"].
+    """Draws CSV with arguments of the program csvtable.
 
-    A text is passed as UTF-8; bytes may be in another encoding, which csvtable finds or "-e" names. No file is opened: a file
-    name among the arguments names the input in messages, and if it ends in .tsv or .tab, TABs may separate fields. Only "-w" sets
-    a width. The drawing ends with a line feed.
+    data: the CSV. A str is passed as UTF-8. Bytes may be in another encoding, which the option "-e" names or csvtable recognises.
+    arguments: the arguments, for example ["-r", "price", "-w", "60"]. No file is opened. A file name among them names the input in
+        messages. If it ends in .tsv or .tab, TABs may separate fields. The table has a greatest width only if "-w" sets one.
 
-    ValueError has the message that csvtable prints, and MemoryError says that memory ran out.
+    The drawing is returned. It ends with a line feed.
+
+    ValueError is raised with csvtable's message if the arguments or the CSV are refused, or if the arguments ask for help or the
+    version. MemoryError is raised if memory runs out.
     """
     given = data.encode() if isinstance(data, str) else data
     if any("\0" in argument for argument in arguments):
@@ -158,7 +174,10 @@ def draw_rows(
     columns: Sequence[ColumnNumbers],
     settings: RowsSettings,
 ) -> str:
-    """The drawing of rows of texts, with a look for each text or none, and a height for each row or none."""
+    """Draws rows of texts.
+
+    `looks` has a look for each text, or is empty. `heights` has the greatest number of lines of each row, or is empty.
+    """
     texts = [text.encode() for row in rows for text in row]
     joined = b"".join(texts)
     numbers = [array.array("Q", it) for it in (map(len, texts), map(len, rows), heights)]
@@ -175,12 +194,15 @@ def draw_rows(
 
 @functools.lru_cache(maxsize=256)
 def _bytes_of(look: Look) -> bytes:
-    """The bytes of a look's struct."""
+    """The bytes of the C struct of a look."""
     return bytes(_Look(*look))
 
 
 def _written(function: Callable[..., int], size: int, *arguments: object) -> tuple[int, str]:
-    """What a function returns and writes, in a buffer that has room for it. The size is that of its input."""
+    """Calls a function, and returns its result and the text that it writes.
+
+    `size` is the number of bytes of its input. If the buffer is too small, the function is called again with a larger buffer.
+    """
     room, needed = 4096 + 4 * size, _SIZE(0)
     while True:
         output = ctypes.create_string_buffer(room)

@@ -1,4 +1,4 @@
-"""Words for colours and attributes, and cells with their own."""
+"""Words for colours and attributes, and cells with their own colours."""
 
 from __future__ import annotations
 
@@ -13,7 +13,7 @@ from ._library import Look
 _COLORS = ("black", "red", "green", "yellow", "blue", "magenta", "cyan", "white")
 # The first 16 of a terminal's 256 colours.
 _NUMBERS = {name: number for number, name in enumerate([*_COLORS, *(f"bright_{color}" for color in _COLORS)])}
-# The parameter of each attribute's SGR sequence, and its bit in comfy_table.h.
+# The SGR parameter of each attribute, and its bit in comfy_table.h.
 _ATTRIBUTES = {
     "bold": (1, 1 << 1),
     "dim": (2, 1 << 2),
@@ -26,7 +26,7 @@ _ATTRIBUTES = {
 }
 PLAIN = Look()
 
-# The alignments in comfy_table.h. 0 is that of the column.
+# The numbers of alignments in comfy_table.h. 0 means the alignment of the column.
 _SIDES = {None: 0, "left": 1, "right": 2, "center": 3}
 
 # The numbers of a colour in comfy_table.h: kind, number, red, green and blue.
@@ -34,13 +34,14 @@ Color = tuple[int, ...]
 
 
 class Cell:
-    """A value with its own colours and alignment, for a row or a list of headers.
+    """A value with its own colours and alignment, in a row or a header.
 
-    colors: words as in the setting `colors` of a table: "red", "bold bright_green", "white on_#204080". They apply to the whole
-        cell, with the spaces beside its text.
+    value: the value to draw.
+    colors: words as the setting `colors` of a table takes them, such as "red", "bold bright_green" or "white on_#204080". They
+        apply to the text and to the spaces beside it. None means no colours.
     align: "left", "right", "center", or None for the alignment of the column.
 
-    ValueError is raised for other words.
+    ValueError is raised if `colors` or `align` has other words.
     """
 
     __slots__ = ("value", "colors", "align")
@@ -56,19 +57,22 @@ class Cell:
 
 
 def value_of(value: Any) -> Any:
-    """The value of a cell, or a value itself."""
+    """The value in a `Cell`. Any other value is returned itself."""
     return value.value if isinstance(value, Cell) else value
 
 
 def writes_colors(asked: str) -> bool:
-    """True if colours are written: for "auto" if standard output is a terminal and NO_COLOR isn't set, and for "always"."""
+    """True if colours are written.
+
+    This is so for "always". It is so for "auto" if standard output is a terminal, and NO_COLOR isn't set or is empty.
+    """
     if asked not in ("auto", "always", "never"):
         raise ValueError(f'color takes "auto", "always" or "never", not {asked!r}')
     return asked == "always" or asked == "auto" and not os.environ.get("NO_COLOR") and _is_terminal(sys.stdout)
 
 
 def _is_terminal(output: Any) -> bool:
-    """True if an output is a terminal. A closed or missing output isn't one."""
+    """True if an output is a terminal. A closed or missing output is none."""
     try:
         return bool(output.isatty())
     except (AttributeError, ValueError):
@@ -76,7 +80,10 @@ def _is_terminal(output: Any) -> bool:
 
 
 def look_of(value: object, has_colors: bool) -> Look:
-    """The look of a cell, with its colours or without, or that of any other value, which has none."""
+    """The look of a `Cell`, with its colours if `has_colors` is true.
+
+    Any other value has a look without settings.
+    """
     if not isinstance(value, Cell):
         return PLAIN
     paint = paint_of(value.colors) if has_colors else PLAIN
@@ -85,7 +92,7 @@ def look_of(value: object, has_colors: bool) -> Look:
 
 @functools.lru_cache(maxsize=256)
 def paint_of(words: Optional[str]) -> Look:
-    """The look that words describe. ValueError is raised for other words."""
+    """The look that words describe. An unknown word raises ValueError."""
     paint = PLAIN
     for word in (words or "").split():
         ground, color = _color_of(word)
@@ -100,7 +107,10 @@ def paint_of(words: Optional[str]) -> Look:
 
 @functools.lru_cache(maxsize=256)
 def sequence_of(words: str) -> str:
-    """The SGR sequence that words describe, in their order. ValueError is raised for other words."""
+    """The SGR sequence that words describe, in the order of the words.
+
+    An unknown word raises ValueError.
+    """
     return f"\x1b[{';'.join(map(_parameters, words.split()))}m"
 
 
@@ -116,7 +126,10 @@ def _parameters(word: str) -> str:
 
 
 def _color_of(word: str) -> tuple[str, Optional[Color]]:
-    """The prefix of a word, which is "on_" for the background, and its colour, or None for an attribute."""
+    """The prefix and the colour of a word.
+
+    The prefix is "on_" for a background, and otherwise "". The colour is None if the word is an attribute.
+    """
     if word in _ATTRIBUTES:
         return "", None
     ground, name = ("on_", word[3:]) if word.startswith("on_") else ("", word)

@@ -1,4 +1,4 @@
-"""Rows from lists, dicts, cursors, DataFrames and others, read into lists of values."""
+"""Reads rows from lists, dicts, cursors, DataFrames and others."""
 
 from __future__ import annotations
 
@@ -20,13 +20,17 @@ class Values(NamedTuple):
 
 
 class _Read(NamedTuple):
-    """Rows, the names of their columns, and an index with a label for each row. Names and index may be missing."""
+    """Rows, the names of their columns, and an index.
+
+    `keys` are the names of the columns, or None if there are none. `labels` are the index, with a label for each row, or None if
+    there is none.
+    """
 
     rows: list[list[Any]]
     keys: Optional[list[Any]]
     labels: Optional[list[Any]] = None
     labels_name: object = None
-    # True if the rows are dicts, whose values have no other order than that of their keys.
+    # True if the rows are dicts. A row's values are then found by their keys, and not by their order.
     are_dicts: bool = False
 
 
@@ -37,7 +41,10 @@ class _Fetched(list):  # type: ignore[type-arg]
 
 
 def kept(data: Any) -> Any:
-    """Rows that can be read more than once. Those of a list or an iterator become a list, to which rows can be added."""
+    """Rows that can be read more than once.
+
+    The rows of a list or an iterator are copied to a new list, to which rows can be added.
+    """
     if getattr(data, "description", None) and hasattr(data, "fetchone"):
         fetched = _Fetched(data)
         fetched.description = data.description
@@ -46,7 +53,10 @@ def kept(data: Any) -> Any:
 
 
 def values_of(data: Any, headers: Headers, showindex: ShowIndex) -> Values:
-    """The header and the rows that the settings ask for, with an index as the first column if they ask for one."""
+    """The header and the rows that the settings ask for.
+
+    If they ask for an index, it is the first column.
+    """
     read = _read(data)
     if isinstance(headers, str) and headers == "firstrow":
         header = read.rows[0] if read.rows else None
@@ -57,7 +67,7 @@ def values_of(data: Any, headers: Headers, showindex: ShowIndex) -> Values:
             read = _chosen_by(header, read)
     rows = read.rows
     if header and rows:
-        # As in tabulate, the first columns are without a name if there are fewer names than columns.
+        # If there are fewer names than columns, the first columns have no name, as in tabulate.
         header = [""] * (len(rows[0]) - len(header)) + header
     index = _index_of(showindex, read, len(rows))
     if index is None:
@@ -67,7 +77,10 @@ def values_of(data: Any, headers: Headers, showindex: ShowIndex) -> Values:
 
 
 def _read(data: Any) -> _Read:
-    """Reads rows by the attributes that they have, so that neither pandas nor numpy is needed."""
+    """Reads rows by the attributes that the object has.
+
+    So this package needs neither pandas nor numpy.
+    """
     names = getattr(getattr(data, "dtype", None), "names", None)
     if names:
         return _Read([[row[name] for name in names] for row in data], list(names))
@@ -87,7 +100,10 @@ def _read(data: Any) -> _Read:
 
 
 def _columns_of(data: Mapping[Any, Any]) -> _Read:
-    """Reads a column for each key of a mapping. Shorter columns end with None."""
+    """Reads a column for each key of a mapping.
+
+    Shorter columns are filled with None.
+    """
     columns = [_cells_of(column) for column in data.values()]
     count = max(map(len, columns), default=0)
     filled = [column + [None] * (count - len(column)) for column in columns]
@@ -95,7 +111,10 @@ def _columns_of(data: Mapping[Any, Any]) -> _Read:
 
 
 def _rows_of(data: list[Any]) -> _Read:
-    """Reads a column for each key that a row has, in order of first use. A row without the key has None."""
+    """Reads a column for each key that a row has, in order of first use.
+
+    A row that lacks a key has None in its column.
+    """
     records = [_record(row) for row in data]
     found = list(dict.fromkeys(key for record in records if isinstance(record, dict) for key in record))
     rows = [[record.get(key) for key in found] if isinstance(record, dict) else record for record in records]
@@ -104,7 +123,7 @@ def _rows_of(data: list[Any]) -> _Read:
 
 
 def _record(row: Any) -> dict[Any, Any] | list[Any]:
-    """The values of a row by its keys, or a list if it has none."""
+    """The values of a row by their keys, or a list if the row has no keys."""
     if dataclasses.is_dataclass(row) and not isinstance(row, type):
         return {field.name: getattr(row, field.name) for field in dataclasses.fields(row)}
     if hasattr(row, "_fields"):
@@ -144,7 +163,10 @@ def _header_of(headers: Headers, read: _Read) -> Optional[list[Any]]:
 
 
 def _chosen_by(header: Optional[list[Any]], read: _Read) -> _Read:
-    """Rows with only the columns of a header, if each name of it is a key. Otherwise its names are new, and all columns stay."""
+    """Rows with only the columns that a header names.
+
+    This is done if each name of the header is a key of the rows. Otherwise the header's names are new names, and all columns stay.
+    """
     names = [value_of(name) for name in header or []]
     if read.keys is None or names == read.keys or not names:
         return read

@@ -1,4 +1,4 @@
-"""Frames: their names, their numbers in comfy_table.h, and their characters."""
+"""Frames: their names, their numbers in comfy_table.h, their characters."""
 
 from __future__ import annotations
 
@@ -7,12 +7,12 @@ from typing import NamedTuple, Optional, Sequence, Union
 
 Style = Union[str, Sequence[str], None]
 
-# The condition for lines between rows in comfy_table.h: always, if a drawn row has several lines, or never.
+# The conditions for lines between rows, in comfy_table.h: always, only if a drawn row has several lines, never.
 EVERYWHERE, WHERE_NEEDED, NOWHERE = range(3)
 
-# The presets in the order of their numbers, and after them the rounded frame. The lines of each are above the table, in the
-# header, below the header, in a row, between rows, and below the table. The characters of a line are the left one, the fill, the
-# one between columns, and the right one. A space means no character.
+# The presets in the order of their numbers, and after them the rounded frame. Each has six lines: above the table, in the header,
+# below the header, in a row, between rows, and below the table. Each line has four characters: at the left end, along each column
+# (the fill), between columns, and at the right end. A space means no character.
 _PRESETS = {
     "ASCII_FULL": ("+-++", "| ||", "+==+", "| ||", "|-+|", "+-++"),
     "ASCII_FULL_CONDENSED": ("+-++", "| ||", "+==+", "| ||", "    ", "+-++"),
@@ -32,37 +32,49 @@ _PRESETS = {
 _NUMBERS = {name: number for number, name in enumerate(_PRESETS)}
 
 
-# The character between columns of a frame with gaps, while the library draws. No text of the table has it.
+# A frame with gaps has two spaces between columns. While the library draws, this character is in their place. If a text has it,
+# another one is used.
 GAP = "\ue000"
 
 
 class Frame(NamedTuple):
-    """The characters of a frame, its number in comfy_table.h, or None, and the condition for lines between rows."""
+    """A frame.
+
+    `lines` has the characters of the frame's six lines. `number` is the frame's number in comfy_table.h, or None if it has no
+    number there. `row_lines` is the condition for lines between rows.
+    """
 
     lines: tuple[str, ...]
     number: Optional[int] = None
     row_lines: int = EVERYWHERE
-    # The lines of a table without a header, if they differ.
+    # The lines for a table without a header, or None if they are the same.
     headless: Optional[tuple[str, ...]] = None
     is_markdown: bool = False
-    # In Markdown, left-aligned columns have a colon too.
+    # In Markdown, the line below the header has a colon for left-aligned columns too.
     has_colons: bool = False
-    # Columns are separated by two spaces, and have no padding.
+    # Two spaces separate the columns, which have no padding.
     has_gaps: bool = False
-    # Lines end with their last visible character.
+    # Lines have no spaces at their ends.
     is_trimmed: bool = False
     # Columns are centred if no setting aligns them.
     is_centered: bool = False
-    # An empty text in the first column is written as two points. Otherwise reStructuredText takes the row as part of the row above.
+    # An empty text in the first column is written as two points. Without them, reStructuredText takes the row as a part of the row
+    # above.
     marks_empty: bool = False
 
     def numbers(self) -> tuple[tuple[int, ...], ...]:
-        """The characters as numbers of comfy_table.h: 0 means none, and lines of texts have no fill."""
+        """The characters as numbers of comfy_table.h.
+
+        0 means no character. A line of texts has no fill.
+        """
         lines = [tuple(0 if it == " " else ord(it) for it in line or "    ") for line in self.lines]
         return tuple(line if at not in (1, 3) else (line[0], *line[2:]) for at, line in enumerate(lines))
 
     def for_table(self, has_header: bool, texts: Sequence[Sequence[str]]) -> Frame:
-        """This frame for a table with these texts, with a header or without. Its character for gaps is in none of the texts."""
+        """This frame for a table with these texts, with a header or without.
+
+        The frame's character for gaps is one that no text has.
+        """
         lines = self.lines if has_header or self.headless is None else self.headless
         if not self.has_gaps:
             return self._replace(lines=lines)
@@ -71,7 +83,10 @@ class Frame(NamedTuple):
         return self._replace(lines=tuple(line.replace(GAP, gap) for line in lines))
 
     def finished(self, drawing: str) -> str:
-        """A drawing with two spaces for each gap, and without spaces at the ends of lines if the frame is trimmed."""
+        """The drawing with two spaces in each gap.
+
+        If the frame is trimmed, spaces at the ends of lines are removed.
+        """
         if self.has_gaps:
             drawing = drawing.replace(self.lines[1][2], "  ")
         return re.sub(" +$", "", drawing, flags=re.MULTILINE) if self.is_trimmed else drawing
@@ -103,7 +118,10 @@ def _outline(frame: Frame) -> Frame:
 
 
 def _gaps(above: str, below_header: str, below: str, headless: tuple[str, str] = ("", "")) -> Frame:
-    """A frame with gaps between columns and these lines. `headless` has the lines above and below a table without a header."""
+    """A frame with these lines, and with gaps between columns.
+
+    `headless` has the lines above and below a table without a header.
+    """
 
     def lines(above: str, below: str) -> tuple[str, ...]:
         return tuple(f" {fill}{GAP} " if fill else "" for fill in (above, " ", below_header, " ", "", below))
@@ -111,7 +129,7 @@ def _gaps(above: str, below_header: str, below: str, headless: tuple[str, str] =
     return Frame(lines(above, below), row_lines=NOWHERE, headless=lines(*headless), has_gaps=True, is_trimmed=True)
 
 
-# Frames of tabulate, with its names and characters.
+# Frames of the package tabulate, with the names and characters that they have there.
 _GRIDS = {
     "grid": _grid("+-++", "| ||", "+=++", "+-++", "+-++"),
     "simple_grid": _grid("┌─┬┐", "│ ││", "├─┼┤", "├─┼┤", "└─┴┘"),
@@ -135,7 +153,7 @@ _TABLEFMTS = {
     "github": MARKDOWN,
     "pipe": MARKDOWN._replace(has_colons=True),
 }
-# Other ways to get the other formats of tabulate.
+# For each format of tabulate that isn't here, another way to get it.
 _CONVERTED = "html unsafehtml latex latex_raw latex_booktabs latex_longtable mediawiki jira textile asciidoc"
 _INSTEAD = {
     **{name: 'pandoc, which reads tablefmt="grid"' for name in _CONVERTED.split()},
@@ -145,7 +163,10 @@ _INSTEAD = {
 
 
 def frame_of(style: Style, tablefmt: object) -> Frame:
-    """The frame with a name, or with lines of your own. ValueError is raised if there is none."""
+    """The frame with a name, or with lines of your own.
+
+    ValueError is raised if no frame has the name.
+    """
     if tablefmt is not None:
         if style is not None:
             raise ValueError("style and tablefmt both set the frame; pass one of them")

@@ -20,9 +20,9 @@ _Item = TypeVar("_Item")
 Width = Union[int, str, None]
 Heights = Union[int, Sequence[Optional[int]], None]
 
-# The conditions for expanding rows in comfy_table.h: never, if the width has no room for all columns, always.
+# The conditions for expanding rows in comfy_table.h: never, only if the width has no room for all columns, always.
 NEVER, AUTO, ALWAYS = range(3)
-# A sequence of colours or attributes (SGR) that the library keeps.
+# A pattern for a sequence of colours or attributes (SGR) that the library keeps.
 _SEQUENCE = "\x1b\\[[0-9;:]*m"
 
 # Hints for settings that only the package tabulate has.
@@ -75,63 +75,94 @@ def tabulate(
 ) -> str:
     """Draws rows as a table, and returns it without a line feed at its end.
 
-    rows: a list of rows. A row is a list or another iterable, or it has keys: a dict, a dataclass, a named tuple, a sqlite3.Row.
-        Or rows are a dict of columns, a cursor, a DataFrame, a Series or an array. Rows may have different lengths. `None` is an
-        empty cell, and other values are drawn by `str`. A `Cell`, also in `headers`, is a value with its own colours and
-        alignment.
+    rows: a list of rows. A row is a list or another iterable. Or it has keys: it is a dict, a dataclass, a named tuple or a
+        sqlite3.Row. Instead of a list of rows you can pass a dict of columns, a cursor, a DataFrame, a Series or an array.
+        Rows may have different lengths. `None` is drawn as an empty cell. Other values are drawn as `str` returns them. A `Cell`
+        is a value with its own colours and alignment. It can be in a row or in `headers`.
 
-    headers: "keys" for the keys of the rows, "firstrow" for the first row, a list, a dict that renames keys, or None for no header.
-        A list of keys chooses the columns with these keys. Another list names the columns in order, but dicts, whose columns have
-        no order, refuse it. If a list has fewer names than the first row has columns, the first columns have no name.
-    tablefmt: a frame of the package tabulate by its name there, with the same characters: "plain", "simple", "grid", "outline",
-        "simple_grid", "rounded_grid", "heavy_grid", "mixed_grid", "double_grid", "fancy_grid", each of these with "_outline" in
-        place of "_grid", "psql", "pretty", "presto", "orgtbl", "rst", "github" and "pipe". "pretty" centres its columns.
-    style: a frame by name: "rounded", which is the default, "box", "grid", "ascii", "plain" or a preset such as "UTF8_FULL".
-        "markdown" is the same as `markdown=True`. Or a frame of your own, of six lines with four characters each, for example
-        ("╭─┬╮", "│ ┆│", "╞═╪╡", "│ ┆│", "├╌┼┤", "╰─┴╯"). The lines are above the table, in the header, below the header, in a
-        row, between rows and below the table. The characters are the left one, the fill, the one between columns and the right
-        one. A space means no character, and "" no line.
-    floatfmt, intfmt, missingval: the formats of floats and ints, such as ".2f" and ",", and the text for `None`. Each is one for
-        all columns, or a list with one for each column. `floatfmt` also applies to Decimals, and to ints of a column that has
-        floats. A column of numbers stays one if `missingval` is "", "-", "n/a", "na", "null", "nan" or "inf". With another text
-        it becomes a column of texts.
-    showindex: True adds a first column with the index of a DataFrame, or with the number of each row, counted from 0. A list adds a
-        column with its values. "default" adds the index if rows have one.
+    headers: the names of the columns:
+        - "keys": the keys of the rows
+        - "firstrow": the first row
+        - a list of keys: these keys, and only the columns with these keys are drawn
+        - another list: names for the columns in order. If rows are dicts, this raises ValueError, because their columns have no
+          order. If the list has fewer names than the first row has columns, the first columns have no name
+        - a dict: a new name for each key that it has
+        - None: there is no header
+    tablefmt: a frame of the package tabulate, with its name and characters there:
+        - "plain", "simple", "grid", "outline", "psql", "pretty", "presto", "orgtbl", "rst", "github" or "pipe"
+        - "simple_grid", "rounded_grid", "heavy_grid", "mixed_grid", "double_grid" or "fancy_grid"
+        - one of these six names with "_outline" in place of "_grid"
+        "pretty" centres its columns.
+    style: another frame:
+        - "rounded", which is the default, "box", "grid", "ascii" or "plain"
+        - a preset, such as "UTF8_FULL"
+        - "markdown", which is the same as `markdown=True`
+        - a frame of your own: six lines of four characters, such as ("╭─┬╮", "│ ┆│", "╞═╪╡", "│ ┆│", "├╌┼┤", "╰─┴╯")
+        The six lines are above the table, in the header, below the header, in a row, between rows, and below the table. The four
+        characters are at the left end, along each column (the fill), between columns, and at the right end. A space means no
+        character. "" means no line.
+    floatfmt, intfmt: the formats of floats and ints, such as ".2f" and ",". Each is one format for all columns, or a list with a
+        format for each column. `floatfmt` also applies to Decimals, and to ints in a column that has floats. None means no format.
+    missingval: the text for `None`: one text for all columns, or a list with a text for each column. A column of numbers stays one
+        if this text is "", "-", "n/a", "na", "null", "nan" or "inf". With another text it becomes a column of texts.
+    showindex: whether an index is added as the first column:
+        - True: the index of a DataFrame, or else the number of each row, counted from 0
+        - a list: its values
+        - "default": the index, if rows have one
+        - False: no index
+        "always" is the same as True, and "never" the same as False.
 
-    left, right, center, columns, hidden: a column, or a list of columns, by name in the header or by position. Positions count from
-        0, and from -1 at the end. The first three align columns. Of the other columns, those of numbers, also of amounts of
-        money, are right-aligned. `columns` chooses the columns to draw and their order, and `hidden` leaves columns out.
+    left, right, center, columns, hidden: a column, or a list of columns. A column is given by its name in the header or by its
+        position. Positions count from 0. -1 is the last column. `left`, `right` and `center` align columns. A column of numbers or
+        amounts of money that isn't among them is right-aligned. `columns` chooses the columns to draw, and their order. `hidden`
+        leaves columns out.
     colalign: the alignments of the first columns, such as ("left", "right", "center").
     align_decimals: True puts the decimal points of a column of numbers below each other.
-    width: the greatest width in terminal columns, "terminal" for the width of the terminal, or None for no limit. `full=True` makes
-        the table exactly that wide. Columns with their own widths then grow only if all columns have such widths.
-    colwidths, mincolwidths, maxcolwidths: the exact, least and greatest widths of a column's texts, in terminal columns. Each is a
-        number for all columns, a list with a number or None for each column, or a dict by name or position.
+    width: the table's greatest width in terminal columns. "terminal" means the width of the terminal. None and 0 mean no limit.
+    full: True makes the table exactly as wide as `width`. Columns with their own widths then grow only if all columns have such
+        widths.
+    colwidths, mincolwidths, maxcolwidths: the exact, least and greatest widths of columns' texts, in terminal columns. Each is a
+        number for all columns, a list with a number or None for each column, or a dict of numbers by name or position. None means
+        no such width.
     padding: the number of free terminal columns beside texts. It is a number for both sides, a pair for left and right, or a dict
-        of these by name or position.
-    max_height: the greatest number of lines of a row below the header, or a list with a number or None for each row.
-    limit: the greatest number of rows to draw. If there are more, a line below the table says so.
-    row_lines: True draws lines between rows in each style that has them, and False in none.
-    expanded: True draws each row as a table of its own, of names and values. "auto" does so if the width is too small.
-    markdown: True draws a table for Markdown, whose texts are never wrapped. A centred column has two colons there.
+        of numbers or pairs by name or position.
+    max_height: the greatest number of lines that are drawn of a row, or a list with a number or None for each row. The header has
+        no limit. None means no limit. 0 counts as 1.
+    limit: the greatest number of rows to draw below the header. If there are more, a line below the table says so. None means no
+        limit. 0 draws only the header.
+    row_lines: True draws lines between rows in each style that has them. False draws none. With None the style decides.
+    expanded: True draws each row as a table of its own. In that table each line has a column's name and the row's value. "auto"
+        does so if `width` is too small for all columns.
+    markdown: True draws a table for Markdown, whose texts are never wrapped. For a centred column, the line below the header has
+        two colons.
     bold_header: True writes the header in bold.
-    colors: a function of a row's position, a column's name (or its position if it has none) and a value. It returns None, or words
-        such as "red", "bold bright_green" or "black on_#ffcc00". The words are "black", "red", "green", "yellow", "blue",
-        "magenta", "cyan" and "white", each also after "bright_", and colours such as "#ffcc00". After "on_" each of them is for
-        the background. Others are "bold", "dim", "italic", "underline", "blink", "reverse", "crossed_out" and "overline".
-    color: "auto" writes all colours, and `bold_header`, if standard output is a terminal and the variable NO_COLOR isn't set.
-        "always" and "never" don't depend on these. Set one of them if you write the drawing to another place.
-    ansi: True keeps sequences of colours and attributes (SGR) in values, wherever the drawing goes. They take no columns.
+    colors: a function that is called for each value. Its arguments are the position of the row, the name of the column (or its
+        position if it has no name), and the value. It returns None, or words such as "red", "bold bright_green" or
+        "black on_#ffcc00". These are the words:
+        - colours: "black", "red", "green", "yellow", "blue", "magenta", "cyan", "white", each of these after "bright_", and
+          colours such as "#ffcc00"
+        - colours of the background: each of these colours after "on_"
+        - attributes: "bold", "dim", "italic", "underline", "blink", "reverse", "crossed_out", "overline"
+    color: whether colours and a bold header are written. "auto" writes them if standard output is a terminal, and the environment
+        variable NO_COLOR isn't set or is empty. "always" always writes them, and "never" never. Set one of these two if you write
+        the drawing to another place than standard output.
+    ansi: True keeps sequences of colours and attributes (SGR) that are in values, wherever the drawing is written. They take no
+        columns.
 
-    A table for Markdown and expanded rows can't have `Cell`, `colwidths`, `mincolwidths`, `maxcolwidths`, `padding` or a list as
-    `max_height`. A table for Markdown also has no colours and no frame of your own, and expanded rows have no `center`. With
-    `expanded="auto"`, `Cell` and `center` are allowed. Expanded rows then show only the value of a `Cell`, and align a centred
-    column by its values.
+    Some settings don't go together:
+        - A table for Markdown and expanded rows can't have `Cell`, `colwidths`, `mincolwidths`, `maxcolwidths`, `padding` or a list
+          as `max_height`.
+        - A table for Markdown also has no colours, and no frame of your own.
+        - Expanded rows also have no `center`.
+        - With `expanded="auto"`, `Cell` and `center` are allowed. If rows are expanded, they show only the value of a `Cell`. A
+          centred column is then aligned by its values.
 
-    Without `ansi`, control characters are drawn as U+FFFD and TABs as spaces. Line breaks are kept. Bytes in UTF-8 are texts.
+    Without `ansi`, control characters are drawn as U+FFFD. TABs are drawn as spaces. Line breaks are kept. A value of bytes in
+    UTF-8 is drawn as the text that they encode.
 
-    ValueError is raised if a column is missing or the header has its name twice, if a setting has an unknown value, or if a text
-    has a lone surrogate. TypeError is raised if rows aren't rows, or a setting doesn't exist. MemoryError is raised if memory runs out.
+    ValueError is raised if a column is missing, if the header has its name twice, if a setting has an unknown value, or if a text
+    has a lone surrogate. TypeError is raised if rows aren't rows, or if a setting doesn't exist. MemoryError is raised if memory
+    runs out.
     """
     for name in others:
         hint = f"; {_INSTEAD[name]}" if name in _INSTEAD else ""
@@ -173,7 +204,10 @@ def tabulate(
 
 
 def _shorten_help() -> None:
-    """Shortens the first line of `help`, which would list all settings. Type checkers read the definitions."""
+    """Shortens the first line of `help`, which would list all settings.
+
+    Type checkers read the definitions, and not this signature.
+    """
     names = {"headers": None, "tablefmt": None, "floatfmt": None}
     kind = inspect.Parameter.POSITIONAL_OR_KEYWORD
     parameters = [inspect.Parameter(name, kind, default=value) for name, value in names.items()]
@@ -185,8 +219,10 @@ def _shorten_help() -> None:
 
 @dataclasses.dataclass(repr=False, eq=False)
 class Table:
-    """Rows, headers and settings, as `tabulate` takes them. Each is an attribute, which can be changed. `str` and `repr` draw the
-    table, with the errors of `tabulate`. A notebook shows it without colours.
+    """Rows, headers and settings, as `tabulate` takes them.
+
+    Each of them is an attribute, which can be changed. `str` and `repr` draw the table. They raise the errors that `tabulate`
+    raises. A notebook shows the table without colours.
 
     >>> table = Table(headers=["name", "price"], style="ascii")
     >>> table.add_row(["oats", 3])
@@ -233,7 +269,11 @@ class Table:
         self.rows = kept(self.rows)
 
     def add_row(self, row: object) -> None:
-        """Adds a row below the others. TypeError is raised if `rows` isn't a list; a list or an iterator was made one."""
+        """Adds a row below the others.
+
+        TypeError is raised if the attribute `rows` isn't a list. A list, a tuple or an iterator that is passed to `Table` becomes a
+        new list.
+        """
         if not isinstance(self.rows, list):
             raise TypeError(f"no row can be added to rows of the type {type(self.rows).__name__}; pass a list")
         self.rows.append(row)
@@ -256,7 +296,10 @@ _shorten_help()
 
 
 class _Contents(NamedTuple):
-    """The texts of the header and the rows, the columns, and a look for each text. `looks` is empty if no text has one."""
+    """The texts of the header and the rows, their looks, and the columns.
+
+    `looks` has a look for each text. It is empty if no value is a `Cell`.
+    """
 
     records: list[list[str]]
     looks: list[list[Look]]
@@ -313,7 +356,10 @@ def _contents_of(table: Table, values: Values, frame: Frame, has_colors: bool) -
 
 
 def _drawn(contents: _Contents, heights: list[int], settings: RowsSettings) -> str:
-    """The drawing of contents. In Markdown and expanded rows, the only setting of a column is left or right."""
+    """Draws the contents.
+
+    In Markdown and expanded rows, the only setting of a column is its side.
+    """
     records, looks, columns = contents
     if settings.is_markdown:
         return draw_rows(records, [], [], [_plain(column.side, LEFT) for column in columns], settings)
@@ -321,7 +367,8 @@ def _drawn(contents: _Contents, heights: list[int], settings: RowsSettings) -> s
     if settings.expansion == ALWAYS:
         return draw_rows(records, [], [], plain, settings)
     if settings.expansion == AUTO and (looks or columns != plain):
-        # The library refuses these if rows may be expanded. So rows are drawn without them first, to see if they are expanded.
+        # If rows may be expanded, the library refuses looks and other settings of columns. So the rows are drawn twice without
+        # these settings: if the drawings differ, the rows are expanded.
         expanded = draw_rows(records, [], [], plain, settings)
         settings.expansion = NEVER
         if expanded != draw_rows(records, [], [], plain, settings):
@@ -330,12 +377,18 @@ def _drawn(contents: _Contents, heights: list[int], settings: RowsSettings) -> s
 
 
 def _plain(side: int, centered: int) -> ColumnNumbers:
-    """A column whose only setting is its side. `centered` is the side of a centred column."""
+    """A column whose only setting is its side.
+
+    A centred column gets the side `centered`.
+    """
     return ColumnNumbers(1, 1, centered if side == CENTER else side, 0, 0)
 
 
 def _with_colons(drawing: str, sides: list[int], has_all: bool) -> str:
-    """A table for Markdown with two colons for centred columns, and with one for left-aligned columns if `has_all`."""
+    """Adds the colons of centred columns to a table for Markdown.
+
+    If `has_all` is true, left-aligned columns get a colon too.
+    """
     header, line, *rows = drawing.split("\n")
     cells = zip(line[1:-1].split("|"), sides)
     return "\n".join([header, f"|{'|'.join(_colons(cell, side, has_all) for cell, side in cells)}|", *rows])
@@ -348,7 +401,7 @@ def _colons(cell: str, side: int, has_all: bool) -> str:
 
 
 def _refuse_settings(table: Table, values: Values, is_markdown: bool) -> None:
-    """Raises ValueError for settings that a table for Markdown or expanded rows can't have."""
+    """Raises ValueError for settings that Markdown or expansion refuses."""
     if not is_markdown and not table.expanded:
         return
     is_expanded = not is_markdown and table.expanded != "auto"
@@ -368,7 +421,10 @@ def _refuse_settings(table: Table, values: Values, is_markdown: bool) -> None:
 
 
 def _looks_of(values: Values, has_colors: bool) -> list[list[Look]]:
-    """The looks of all values, with colours or without. The list is empty if no value is a cell."""
+    """The looks of all values, with colours if `has_colors` is true.
+
+    The list is empty if no value is a `Cell`.
+    """
     rows = [*([] if values.header is None else [values.header]), *values.rows]
     if not _has_cells(values):
         return []
@@ -380,7 +436,7 @@ def _has_cells(values: Values) -> bool:
 
 
 def _without_cells(values: Values) -> Values:
-    """The values, with each cell replaced by its value."""
+    """The values, with each `Cell` replaced by the value in it."""
     header = None if values.header is None else [value_of(value) for value in values.header]
     return Values(header, [[value_of(value) for value in row] for row in values.rows])
 
@@ -418,7 +474,11 @@ def _settings_of(
 
 
 def _heights_of(heights: Heights, headers: int, rows: int) -> list[int]:
-    """The greatest heights of the header, which is 0 for no limit, and of each row, if `heights` is a list. 0 counts as 1."""
+    """The greatest heights of the header and of each row.
+
+    The result is empty if `heights` isn't a list. In the result, 0 means no limit. In `heights`, None means no limit, and 0 counts
+    as 1.
+    """
     if not isinstance(heights, (list, tuple)):
         return []
     wholes = [_whole(height, "max_height") for height in heights]

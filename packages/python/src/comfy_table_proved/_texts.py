@@ -9,8 +9,8 @@ from typing import Any, Callable, Iterable, Optional, Sequence, Union
 from ._paints import sequence_of
 
 Column = Union[str, int]
-# The arguments are the row's position, the column's name or else its position, and the value. Functions that only take names or
-# positions are accepted too.
+# The arguments are the position of the row, the name of the column (or its position if it has no name), and the value. For type
+# checkers, the second argument has the type Any, so that a function may take only names or only positions.
 Colors = Callable[[int, Any, Any], Optional[str]]
 Texts = Union[str, Sequence[Optional[str]], None]
 
@@ -19,7 +19,10 @@ _REPLACEMENT = "\ufffd"
 
 
 class Writer:
-    """Writes values as texts. A setting is one text for all columns, or a list with one for each of the first columns.
+    """Writes values as texts.
+
+    Each of the settings `floatfmt`, `intfmt` and `missingval` is one text for all columns, or a list of texts for the first
+    columns.
 
     The function `colors` is called even if colours aren't written, so that an unknown word always raises ValueError.
     """
@@ -32,7 +35,10 @@ class Writer:
         self._of_floats: set[int] = set()
 
     def rows_of(self, rows: list[list[Any]], names: list[str]) -> list[list[str]]:
-        """The texts of rows with these names of columns. An empty row gets one empty text, so that there is a column."""
+        """The texts of rows whose columns have these names.
+
+        An empty row gets one empty text, so that there is a column.
+        """
         if self._floatfmt is not None:
             self._of_floats = {at for row in rows for at, value in enumerate(row) if _is_float(value)}
         return [self._texts_of(position, row, names) or [""] for position, row in enumerate(rows)]
@@ -41,7 +47,10 @@ class Writer:
         return [self._plain("" if name is None else _text(name)) for name in header]
 
     def _texts_of(self, position: int, row: list[Any], names: list[str]) -> list[str]:
-        """The texts of the row at a position, with these names of columns, and with the sequences of their colours."""
+        """The texts of the row at a position, with escape sequences for colours.
+
+        `names` are the names of the columns.
+        """
         texts = [self._text_of(at, value) for at, value in enumerate(row)]
         if self._colors is None:
             return texts
@@ -63,13 +72,14 @@ class Writer:
         return self._plain(format(value, wanted) if wanted else _text(value))
 
     def _plain(self, text: str) -> str:
-        # The library keeps sequences if `colors` makes some. Without `ansi`, those in values are replaced first.
+        # If `colors` makes sequences, the library keeps all sequences. Without `ansi`, it must not keep those that are in values,
+        # so they are replaced here.
         return text if self._colors is None or self._ansi else text.replace(_ESCAPE, _REPLACEMENT)
 
 
 def _is_float(value: object) -> bool:
-    """True for a float, also one of numpy, and for a Decimal."""
-    # Checks common types first, because abstract classes are much slower.
+    """True for a float, a float of numpy, and a Decimal."""
+    # Common types are checked first, because checks of abstract classes are much slower.
     if isinstance(value, (float, int, str)):
         return isinstance(value, float)
     return isinstance(value, (numbers.Real, decimal.Decimal)) and not isinstance(value, numbers.Rational)
@@ -82,7 +92,10 @@ def _is_int(value: object) -> bool:
 
 
 def _text(value: object) -> str:
-    """The text of a value: that of str, or for bytes in UTF-8 the text that they encode."""
+    """The text of a value: what `str` returns.
+
+    For bytes in UTF-8 it is the text that they encode.
+    """
     if isinstance(value, bytes):
         try:
             return value.decode()
@@ -92,12 +105,15 @@ def _text(value: object) -> str:
 
 
 def _painted(text: str, words: str | None) -> str:
-    """A text with the sequence of these words before it, and a reset after it; without words the text alone."""
+    """A text with the sequence of these words before it, and a reset after it.
+
+    Without words, the text is returned alone.
+    """
     return f"{sequence_of(words)}{text}{_ESCAPE}[0m" if words else text
 
 
 def _at(setting: Texts, at: int) -> str | None:
-    """The value of a setting for a column."""
+    """The value of a setting for the column at a position, or None."""
     if setting is None or isinstance(setting, str):
         return setting
     return setting[at] if at < len(setting) else None

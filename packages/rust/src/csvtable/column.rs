@@ -1,6 +1,6 @@
 use crate::csvtable::error::Error;
 
-/// The name or the position of a column. Texts and numbers are converted to it.
+/// The name or the position of a column. Calls that take a column also take a text or a number.
 ///
 /// ```
 /// use comfy_table_proved::csvtable::{Column, Rows};
@@ -38,8 +38,8 @@ impl From<usize> for Column {
 }
 
 impl Column {
-    /// The position in a table with this header and this number of columns. It is an error if there is no such column, or if the
-    /// header has the name twice.
+    /// Returns the column's position in a table with this header and this number of columns. It is an error if there is no such
+    /// column, or if the header has the name twice.
     pub(crate) fn position(&self, header: &[String], count: usize) -> Result<usize, Error> {
         let name = match self {
             Column::Position(position) if *position < count => return Ok(*position),

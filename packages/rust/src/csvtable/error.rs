@@ -1,7 +1,7 @@
 use crate::library::OutOfMemory;
 use std::fmt;
 
-/// The reason why there is no drawing.
+/// The reason why a call of this module failed.
 ///
 /// ```
 /// use comfy_table_proved::csvtable::{Error, Rows, draw_csv};
@@ -15,13 +15,13 @@ use std::fmt;
 pub enum Error {
     /// The input can't be drawn. The text is csvtable's message.
     Input(String),
-    /// The arguments are refused. The text is csvtable's message, or its help or version if they ask for that.
+    /// The arguments are refused, or they ask for csvtable's help or version. The text is csvtable's message, help or version.
     Arguments(String),
-    /// The table has no column of this name, or at this position.
+    /// The table has no column with this name, or at this position, which is counted from 0.
     NoColumn(String),
-    /// The header has this name twice, so it doesn't name one column.
+    /// The header has this name twice, so the name could mean either column.
     AmbiguousColumn(String),
-    /// The column at this position would have to be both left-aligned and right-aligned.
+    /// The column at this position, counted from 0, would have to be both left-aligned and right-aligned.
     TwoSides(usize),
     /// Memory ran out.
     OutOfMemory,

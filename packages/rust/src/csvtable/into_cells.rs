@@ -1,6 +1,7 @@
 use std::fmt::Display;
 
-/// A row: an array, a vector or a slice of values, or a tuple of up to twelve values of different types.
+/// A row of values. It is an array, a vector or a slice of values with `Display`, or a tuple of one to twelve such values, which
+/// may have different types.
 ///
 /// ```
 /// use comfy_table_proved::csvtable::Rows;
@@ -12,7 +13,7 @@ use std::fmt::Display;
 /// assert_eq!(rows.len(), 3);
 /// ```
 pub trait IntoCells {
-    /// Calls a function for each value, in order.
+    /// Calls the function `each` for each value, in order.
     fn for_each_cell(self, each: impl FnMut(&dyn Display));
 }
 

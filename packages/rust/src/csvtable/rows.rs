@@ -16,8 +16,8 @@ use std::cell;
 use std::env;
 use std::fmt::{self, Display, Write};
 
-/// The condition for expanding rows. An expanded row is drawn as a table of its own, with a line for each column: its name and its
-/// cell.
+/// The condition for expanding rows. An expanded row is drawn as a table of its own. In that table each line has the name of a
+/// column and the row's cell in that column.
 ///
 /// ```
 /// use comfy_table_proved::csvtable::{Expanded, Rows, Style};
@@ -46,7 +46,7 @@ const RIGHT: u32 = 2;
 ///
 /// In a cell, control characters are drawn as U+FFFD and TABs as spaces. Line breaks are kept.
 ///
-/// `Display` writes the drawing of [`Rows::draw`], which ends with a line feed. It returns an error if memory runs out.
+/// `Display` writes the drawing that [`Rows::draw`] returns, which ends with a line feed. Writing fails if memory runs out.
 ///
 /// ```
 /// use comfy_table_proved::csvtable::{Rows, Style};
@@ -69,9 +69,9 @@ pub struct Rows {
     header: Vec<String>,
     // the header and the rows
     texts: Texts,
-    // the side of each column, as many as the longest row has cells
+    // the side of each column; there are as many columns as the longest row has cells
     sides: Vec<u32>,
-    // the positions of the columns to draw, or none for all columns
+    // the positions of the columns to draw; an empty list means all columns
     chosen: Vec<usize>,
     style: Style,
     has_row_lines: Option<bool>,
@@ -117,7 +117,7 @@ impl Rows {
         rows
     }
 
-    /// Makes a table with neither header nor rows. Rows can be collected into one too.
+    /// Makes a table with neither header nor rows. An iterator over rows can also be collected into a table without a header:
     ///
     /// ```
     /// use comfy_table_proved::csvtable::Rows;
@@ -183,7 +183,7 @@ impl Rows {
         self.len() == 0
     }
 
-    /// Draws only these columns, in this order, or all columns if the list is empty.
+    /// Draws only these columns, in this order. If the list is empty, all columns are drawn.
     ///
     /// ```
     /// use comfy_table_proved::csvtable::{Rows, Style};
@@ -201,8 +201,11 @@ impl Rows {
     ///
     /// # Errors
     ///
-    /// [`Error::NoColumn`] if the header doesn't have a name, or if neither the header nor a row has a cell at a position; add rows
-    /// first. [`Error::AmbiguousColumn`] if the header has a name twice. The table is dropped.
+    /// - [`Error::NoColumn`] if a name isn't in the header, or if neither the header nor a row has a cell at a position. Add the
+    ///   rows before this call.
+    /// - [`Error::AmbiguousColumn`] if a name is in the header twice.
+    ///
+    /// After an error the table no longer exists.
     pub fn columns<T: Into<Column>>(mut self, columns: impl IntoIterator<Item = T>) -> Result<Rows, Error> {
         self.chosen = self.positions(columns)?;
         Ok(self)
@@ -220,8 +223,8 @@ impl Rows {
     ///
     /// # Errors
     ///
-    /// Those of [`columns`](Rows::columns), and [`Error::TwoSides`] if [`left`](Rows::left) has named the column. The table is
-    /// dropped.
+    /// The errors of [`columns`](Rows::columns), and [`Error::TwoSides`] if [`left`](Rows::left) was called with one of these
+    /// columns. After an error the table no longer exists.
     pub fn right<T: Into<Column>>(self, columns: impl IntoIterator<Item = T>) -> Result<Rows, Error> {
         self.aligned(columns, RIGHT)
     }
@@ -238,13 +241,14 @@ impl Rows {
     ///
     /// # Errors
     ///
-    /// Those of [`columns`](Rows::columns), and [`Error::TwoSides`] if [`right`](Rows::right) has named the column. The table is
-    /// dropped.
+    /// The errors of [`columns`](Rows::columns), and [`Error::TwoSides`] if [`right`](Rows::right) was called with one of these
+    /// columns. After an error the table no longer exists.
     pub fn left<T: Into<Column>>(self, columns: impl IntoIterator<Item = T>) -> Result<Rows, Error> {
         self.aligned(columns, LEFT)
     }
 
-    /// Sets the greatest width of the table, in terminal columns. 0, as without this call, means that there is no limit.
+    /// Sets the greatest width of the table, in terminal columns. 0 means that there is no limit. Without this call there is no
+    /// limit.
     ///
     /// ```
     /// use comfy_table_proved::csvtable::{Rows, Style};
@@ -264,15 +268,17 @@ impl Rows {
         self
     }
 
-    /// Sets the terminal's width as the greatest width. This is the value of the variable `COLUMNS`, if it is a number from 1 to
-    /// 65535. Otherwise it is the width of the terminal, and 80 without a terminal.
+    /// Sets the greatest width of the table to the width of the terminal, in terminal columns. This is the value of the
+    /// environment variable `COLUMNS`, if that is a number from 1 to 65535. Otherwise it is the width that the system has for the
+    /// terminal. If the system knows no width, it is 80.
     #[cfg(feature = "tty")]
     pub fn terminal_width(self) -> Rows {
         let set = env::var("COLUMNS").ok().and_then(|text| text.parse().ok()).filter(|columns| *columns > 0);
         self.width(set.or_else(terminal::columns).unwrap_or(80))
     }
 
-    /// Makes the table exactly as wide as the set width, if true. Without a width this has no effect.
+    /// If true, makes the table exactly as wide as the width that [`width`](Rows::width) or `terminal_width` sets. Without a width
+    /// this has no effect.
     ///
     /// ```
     /// use comfy_table_proved::csvtable::Rows;
@@ -285,7 +291,8 @@ impl Rows {
         self
     }
 
-    /// Sets the greatest number of lines of a row below the header. Longer texts are cut, and end with `…`. 0 counts as 1.
+    /// Sets the greatest number of lines that are drawn of each row. The header has no limit. A text with more lines is cut, and
+    /// then ends with `…`. 0 counts as 1. Without this call there is no limit.
     ///
     /// ```
     /// use comfy_table_proved::csvtable::Rows;
@@ -298,7 +305,12 @@ impl Rows {
         self
     }
 
-    /// Draws only the first `rows` rows. If there are more, a line below the table says so.
+    /// Draws only the first `rows` rows. If there are more, a line below the table says so. Without this call all rows are drawn.
+    /// 0 draws only the header.
+    ///
+    /// # Panics
+    ///
+    /// [`draw`](Rows::draw) panics after `limit(0)` if the table has rows but no header.
     ///
     /// ```
     /// use comfy_table_proved::csvtable::Rows;
@@ -311,14 +323,14 @@ impl Rows {
         self
     }
 
-    /// Sets the frame, [`Style::Rounded`] without this call.
+    /// Sets the frame. Without this call it is [`Style::Rounded`].
     pub fn style(mut self, style: Style) -> Rows {
         self.style = style;
         self
     }
 
-    /// Draws lines between all rows if true, in each style that has such lines, and none if false. Without this call, the style
-    /// decides.
+    /// If true, draws lines between all rows, in each style that has such lines. If false, draws no lines between rows. Without
+    /// this call, the style decides.
     ///
     /// ```
     /// use comfy_table_proved::csvtable::{Rows, Style};
@@ -331,19 +343,20 @@ impl Rows {
         self
     }
 
-    /// Sets when rows are expanded, [`Expanded::Never`] without this call.
+    /// Sets the condition for expanding rows. Without this call it is [`Expanded::Never`].
     pub fn expanded(mut self, when: Expanded) -> Rows {
         self.settings.expanded = when;
         self
     }
 
-    /// Writes the header, or the names of expanded rows, in bold if true. This is done wherever the table goes, except in Markdown.
+    /// If true, writes the header in bold. In expanded rows, the names of the columns are bold. Bold is written even if the output
+    /// isn't a terminal. A table for Markdown has no bold header.
     pub fn bold_header(mut self, is_bold: bool) -> Rows {
         self.settings.has_bold_header = is_bold;
         self
     }
 
-    /// Adds a first column `#` with the numbers of the rows, from 1, if true.
+    /// If true, adds a first column with the name `#`, which numbers the rows from 1.
     ///
     /// ```
     /// use comfy_table_proved::csvtable::{Rows, Style};
@@ -363,7 +376,7 @@ impl Rows {
         self
     }
 
-    /// Puts the decimal points of a column of numbers below each other if true, as without this call.
+    /// If true, puts the decimal points of a column of numbers below each other. Without this call they are below each other too.
     ///
     /// ```
     /// use comfy_table_proved::csvtable::Rows;
@@ -377,9 +390,11 @@ impl Rows {
         self
     }
 
-    /// Colours the cells of the rows so far. The function gets the position of the row, that of the column, and the cell. It returns
-    /// a cell, whose text, colours and attributes replace those of the cell. They are written wherever the table goes, except in
-    /// Markdown. The header isn't coloured.
+    /// Colours the cells of the rows that were added before this call. The header isn't coloured.
+    ///
+    /// The function gets the position of the cell's row, the position of its column, and the cell. Both positions count from 0.
+    /// The function returns a cell. The text, the colours and the attributes of the returned cell are drawn in place of those of
+    /// the given cell. Colours and attributes are written even if the output isn't a terminal. A table for Markdown has none.
     ///
     /// ```
     /// use comfy_table_proved::Color;
@@ -414,7 +429,7 @@ impl Rows {
     ///
     /// # Errors
     ///
-    /// [`Error::OutOfMemory`]. The table is unchanged.
+    /// [`Error::OutOfMemory`] if memory runs out.
     ///
     /// ```
     /// use comfy_table_proved::csvtable::Rows;
@@ -455,7 +470,7 @@ impl Rows {
         Ok(self)
     }
 
-    // The settings as numbers of comfy_table.h.
+    // The settings of the table, as numbers of comfy_table.h.
     fn settings(&self) -> RowsSettings {
         let Settings {
             is_numbered,
@@ -497,12 +512,12 @@ impl Rows {
     }
 }
 
-// A text whose escape characters are replaced, so that it has no sequences of colours.
+// The text with its escape characters replaced, so that it has no sequences of colours and attributes.
 fn plain(text: &str) -> String {
     text.replace('\x1b', "\u{fffd}")
 }
 
-// A text without its sequences of colours and attributes (SGR).
+// The text without its sequences of colours and attributes (SGR).
 fn visible(text: &str) -> String {
     let mut parts = text.split("\x1b[");
     let first = parts.next().unwrap_or_default().to_owned();
@@ -521,7 +536,7 @@ impl Texts {
         self.lengths.push(text.len());
     }
 
-    // Appends the text that each value prints.
+    // Appends the text that each value prints, and its length.
     fn push_values(&mut self, values: impl IntoCells) {
         let end = cell::Cell::new(self.joined.len());
         let left = cell::Cell::new(Some((values, &mut self.lengths)));
@@ -553,11 +568,11 @@ impl Texts {
     }
 }
 
-// The values of a row. They print one after another, and the length of each is noted, so that one call of `write!` prints them all.
+// The values of a row. One call of `write!` prints them all, one after another, and notes the length of each text.
 struct Values<'a, V> {
-    // the values and the list for their lengths, until they are printed
+    // the values and the list for the lengths of their texts, or `None` after they were printed
     left: cell::Cell<Option<(V, &'a mut Vec<usize>)>>,
-    // the end of the text that is printed
+    // the number of bytes of the text that the values are appended to
     end: &'a cell::Cell<usize>,
 }
 
@@ -576,7 +591,7 @@ impl<V: IntoCells> Display for Values<'_, V> {
     }
 }
 
-// A text that is appended to, and its end.
+// The text to which the values are appended. `end` always has its number of bytes.
 struct Joined<'a> {
     text: &'a mut String,
     end: &'a cell::Cell<usize>,

@@ -1,6 +1,6 @@
 use crate::style::{TableStyle, presets};
 
-/// The frame of a table: one of csvtable's, or a preset.
+/// The frame of a table: one of csvtable's frames, or one of the [`presets`].
 ///
 /// ```
 /// use comfy_table_proved::csvtable::{Rows, Style};
@@ -18,15 +18,15 @@ pub enum Style {
     /// Round corners, and lines between rows only if a drawn row has several lines.
     #[default]
     Rounded,
-    /// As `Rounded`, with square corners.
+    /// As `Rounded`, but with square corners.
     Box,
-    /// As `Rounded`, with lines between all rows.
+    /// As `Rounded`, but with lines between all rows.
     Grid,
     /// ASCII, with lines between all rows.
     Ascii,
     /// Only spaces.
     Plain,
-    /// A table for Markdown. Its texts are escaped and never wrapped, and its rows are never expanded, whatever the width is.
+    /// A table for Markdown. Its texts are escaped. Whatever the width is, no text is wrapped and no row is expanded.
     Markdown,
     /// A preset, made by [`Style::of_preset`].
     Preset(Preset),
@@ -40,7 +40,7 @@ pub struct Preset(u32);
 const ROUNDED: u32 = presets::ALL.len() as u32;
 
 impl Style {
-    /// Returns the frame of a preset, or `None` for any other style.
+    /// Returns the frame that a preset has, or `None` if the given style isn't one of the [`presets`].
     ///
     /// ```
     /// use comfy_table_proved::csvtable::{Rows, Style};
@@ -54,7 +54,7 @@ impl Style {
         Some(Style::Preset(Preset(position as u32)))
     }
 
-    /// The number in comfy_table.h.
+    /// The number of this frame in comfy_table.h.
     pub(crate) fn number(self) -> u32 {
         match self {
             Style::Rounded | Style::Grid | Style::Markdown => ROUNDED,

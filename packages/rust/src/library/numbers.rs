@@ -1,6 +1,6 @@
-//! The structs of comfy_table.h, in its order and without its prefix.
+//! The structs of comfy_table.h, in the same order. Their names lack the prefix `comfy_`.
 
-/// The number of a character, or the number for none.
+/// The number of a character in comfy_table.h. `None` becomes 0, which means no character.
 pub fn of_character(character: Option<char>) -> u32 {
     match character {
         None => 0,
@@ -79,7 +79,7 @@ pub struct ContentLine {
     pub right: u32,
 }
 
-/// The style whose lines are in `frame`.
+/// The number of a style whose lines are in the field `frame` of the settings.
 pub const OWN_STYLE: u32 = u32::MAX;
 
 #[repr(C)]
@@ -118,7 +118,7 @@ pub struct RowsColumn {
 }
 
 impl RowsColumn {
-    /// A column with this side, and no other setting.
+    /// A column whose texts are at this side, with no other setting.
     pub fn at(side: u32) -> RowsColumn {
         RowsColumn { left_padding: 1, right_padding: 1, side, least: 0, greatest: 0 }
     }

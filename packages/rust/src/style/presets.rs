@@ -79,7 +79,7 @@ pub const ASCII_FULL: TableStyle = TableStyle {
     bottom_border: line(['+', '-', '+', '+']),
 };
 
-/// As [`ASCII_FULL`], without lines between rows.
+/// As [`ASCII_FULL`], but without lines between rows.
 ///
 /// ```text
 /// +-------+-------+
@@ -98,7 +98,7 @@ pub const ASCII_FULL_CONDENSED: TableStyle = TableStyle {
     bottom_border: line(['+', '-', '+', '+']),
 };
 
-/// As [`ASCII_FULL`], without lines around the table.
+/// As [`ASCII_FULL`], but without lines around the table.
 ///
 /// ```text
 ///  Hello | there
@@ -175,7 +175,7 @@ pub const ASCII_HORIZONTAL_ONLY: TableStyle = TableStyle {
     bottom_border: line([' ', '-', '-', ' ']),
 };
 
-/// The lines of a table for Markdown. Texts aren't escaped, and line breaks in them break the table.
+/// The lines of a table for Markdown. Texts aren't escaped. A line break in a text breaks the table.
 ///
 /// ```text
 /// | Hello | there |
@@ -212,7 +212,7 @@ pub const UTF8_FULL: TableStyle = TableStyle {
     bottom_border: line(['└', '─', '┴', '┘']),
 };
 
-/// As [`UTF8_FULL`], without lines between rows.
+/// As [`UTF8_FULL`], but without lines between rows.
 ///
 /// ```text
 /// ┌───────┬───────┐
@@ -231,7 +231,7 @@ pub const UTF8_FULL_CONDENSED: TableStyle = TableStyle {
     bottom_border: line(['└', '─', '┴', '┘']),
 };
 
-/// As [`UTF8_FULL`], without lines around the table.
+/// As [`UTF8_FULL`], but without lines around the table.
 ///
 /// ```text
 ///  Hello ┆ there

@@ -1,6 +1,6 @@
 //! Colours and attributes of texts in terminals.
 
-/// An attribute of a text in a terminal. Terminals show those that they know.
+/// An attribute of a text in a terminal. A terminal shows only the attributes that it knows.
 ///
 /// ```
 /// use comfy_table_proved::{Attribute, Cell};
@@ -13,7 +13,7 @@
 pub enum Attribute {
     /// Ends all attributes and colours.
     Reset,
-    /// Bold, or brighter.
+    /// Bold. Some terminals show it as a brighter colour.
     Bold,
     /// Dimmer.
     Dim,
@@ -114,7 +114,7 @@ pub enum Color {
     White,
     /// Colour 7 of 256.
     Grey,
-    /// A colour with these parts of red, green and blue.
+    /// A colour by its parts of red, green and blue, each from 0 to 255.
     Rgb {
         /// The red part.
         r: u8,
@@ -128,7 +128,7 @@ pub enum Color {
 }
 
 impl Color {
-    /// The number of a colour that is one of 256, or `None`.
+    /// The number of this colour, if it is one of the 256 numbered colours, or else `None`.
     pub(crate) fn number(self) -> Option<u8> {
         Some(match self {
             Color::Reset | Color::Rgb { .. } => return None,

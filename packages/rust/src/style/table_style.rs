@@ -1,7 +1,8 @@
 //! The characters of a table's frame.
 
-/// The characters of a horizontal line of the frame. If none is set, the line isn't drawn. Otherwise a space is drawn for each
-/// missing one, except at borders that no line of the [`TableStyle`] has.
+/// The characters of a horizontal line of the frame. If no character is set, the line isn't drawn. Otherwise a space is drawn for
+/// each character that isn't set. A vertical border for which no line of the [`TableStyle`] has a character isn't drawn, so there
+/// is no space for it either.
 ///
 /// ```text
 ///   fill    fill
@@ -92,7 +93,7 @@ pub struct ContentLineStyle {
 }
 
 impl ContentLineStyle {
-    /// Makes borders of all three characters.
+    /// Makes borders with all three characters.
     ///
     /// ```
     /// use comfy_table_proved::{ContentLineStyle, presets::UTF8_FULL};
@@ -139,8 +140,10 @@ impl ContentLineStyle {
 /// └───────┴───────┘  bottom_border
 /// ```
 ///
-/// A border at the left or right, or between columns, is drawn if one of the six lines has a character for it. The other lines
-/// then have a space there. Use one of the [`presets`](crate::presets), change one, or begin with [`TableStyle::new`]:
+/// There are vertical borders at the left, at the right and between columns. Each of these three is drawn if at least one of the
+/// six lines has a character for it. The other lines then have a space there.
+///
+/// Use one of the [`presets`](crate::presets), change one, or begin with [`TableStyle::new`]:
 ///
 /// ```
 /// use comfy_table_proved::{ContentLineStyle, LineStyle, Table, TableStyle};
@@ -157,11 +160,11 @@ impl ContentLineStyle {
 pub struct TableStyle {
     /// The line above the table.
     pub top_border: LineStyle,
-    /// The borders of the header's lines.
+    /// The vertical borders in the header.
     pub header_lines: ContentLineStyle,
     /// The line below the header.
     pub header_separator: LineStyle,
-    /// The borders of the rows' lines.
+    /// The vertical borders in the rows.
     pub content_lines: ContentLineStyle,
     /// The line between two rows.
     pub row_separator: LineStyle,
@@ -170,7 +173,7 @@ pub struct TableStyle {
 }
 
 impl TableStyle {
-    /// Makes a style without characters, as [`NOTHING`](crate::presets::NOTHING).
+    /// Makes a style without characters. It equals [`NOTHING`](crate::presets::NOTHING).
     pub const fn new() -> TableStyle {
         TableStyle {
             top_border: LineStyle::none(),
@@ -188,7 +191,7 @@ impl TableStyle {
         self
     }
 
-    /// Sets the borders of the header's lines.
+    /// Sets the vertical borders in the header.
     pub const fn header_lines(mut self, line: ContentLineStyle) -> TableStyle {
         self.header_lines = line;
         self
@@ -213,7 +216,7 @@ impl TableStyle {
         self
     }
 
-    /// Sets the borders of the rows' lines.
+    /// Sets the vertical borders in the rows.
     pub const fn content_lines(mut self, line: ContentLineStyle) -> TableStyle {
         self.content_lines = line;
         self
@@ -231,7 +234,7 @@ impl TableStyle {
         self
     }
 
-    /// Returns this style with round corners, in place of those that it has.
+    /// Returns this style with round corners in place of its own corners.
     ///
     /// ```
     /// use comfy_table_proved::{Table, presets::UTF8_FULL};

@@ -1,4 +1,4 @@
-//! A table as the numbers and texts that the library takes.
+//! Converts a table to the numbers and texts that the library takes.
 
 use crate::cell::Cell;
 use crate::column::Column;
@@ -13,7 +13,7 @@ use crate::table::{Form, Table};
 use crate::terminal;
 use crate::text;
 
-/// The cells, rows and columns of a table, and the bytes of its longest row.
+/// Returns the cells, rows and columns of a table for the library, and the number of bytes that the texts of its longest row have.
 pub fn cells_of(table: &Table) -> (CellTable, usize) {
     let mut longest = 0;
     let mut made = CellTable {
@@ -40,9 +40,11 @@ fn bytes_in(row: &Row) -> usize {
     row.cells.iter().map(|cell| cell.text.len()).sum()
 }
 
-/// How many bytes the drawing of a table within a width has at most, in most cases: far too many cost nothing, and too few a
-/// second drawing. For each row it counts the lines that its texts may take, one of the frame, and sequences of its cells. The
-/// longest row has `longest` bytes.
+/// Estimates the greatest number of bytes that the drawing of a table within a width has. If the estimate is far too great, this
+/// costs nothing. If it is too small, the table is drawn a second time.
+///
+/// For each row, the estimate counts the lines that its texts may take, a line of the frame, and the sequences of its cells.
+/// `longest` is the number of bytes that the texts of the longest row have.
 pub fn room_for(table: &Table, cells: &CellTable, longest: usize, width: Option<u16>) -> usize {
     const SEQUENCES: usize = 64;
     const MOST: usize = 1 << 30;
@@ -63,7 +65,8 @@ pub fn room_for(table: &Table, cells: &CellTable, longest: usize, width: Option<
     estimate.min(MOST) + 4 * cells.texts.len()
 }
 
-/// The other settings of a table, for a form of drawing within a width.
+/// Returns the other settings of a table for the library, for a drawing of this form. The width is in terminal columns, and `None`
+/// means no width.
 pub fn settings_of(table: &Table, width: Option<u16>, form: Form) -> numbers::CellsSettings {
     numbers::CellsSettings {
         form: match form {
@@ -153,7 +156,7 @@ fn of_alignment(alignment: Option<CellAlignment>) -> u32 {
     }
 }
 
-// No colour, if NO_COLOR asks for none.
+// The numbers of a colour. If NO_COLOR is set and not empty, they are the numbers of no colour.
 #[cfg(feature = "tty")]
 fn of_color(color: Option<Color>) -> numbers::Color {
     let of_kind = |kind| numbers::Color { kind, ..numbers::Color::default() };

@@ -1,4 +1,4 @@
-//! Draws TAB-separated text as `ctable [WIDTH|- [disabled|dynamic|full]]` does, by the original.
+//! Draws TAB-separated text by the original library, as `ctable [WIDTH|- [disabled|dynamic|full]]` does.
 
 use comfy_table::presets::ASCII_FULL;
 use comfy_table::{Cell, ContentArrangement, Row, Table};
