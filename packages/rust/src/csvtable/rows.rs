@@ -306,17 +306,14 @@ impl Rows {
     }
 
     /// Draws only the first `rows` rows. If there are more, a line below the table says so. Without this call all rows are drawn.
-    /// 0 draws only the header.
-    ///
-    /// # Panics
-    ///
-    /// [`draw`](Rows::draw) panics after `limit(0)` if the table has rows but no header.
+    /// 0 draws only the header; without a header the drawing is then empty.
     ///
     /// ```
     /// use comfy_table_proved::csvtable::Rows;
     ///
     /// let rows: Rows = (1..4).map(|number| [number]).collect();
     /// assert_eq!(rows.limit(1).to_string(), "╭───╮\n│ 1 │\n╰───╯\n1 of 3 rows\n");
+    /// assert_eq!(Rows::without_header().row([1]).limit(0).to_string(), "");
     /// ```
     pub fn limit(mut self, rows: usize) -> Rows {
         self.settings.limit = Some(rows);
@@ -438,6 +435,10 @@ impl Rows {
     /// # Ok::<(), comfy_table_proved::csvtable::Error>(())
     /// ```
     pub fn draw(&self) -> Result<String, Error> {
+        // The library refuses rows of which nothing is drawn.
+        if !self.settings.has_header && self.settings.limit == Some(0) {
+            return Ok(String::new());
+        }
         let settings = self.settings();
         let is_plain = self.style == Style::Markdown && self.settings.has_sequences;
         let drawn = if is_plain { Cow::Owned(self.texts.without_sequences()) } else { Cow::Borrowed(&self.texts) };
