@@ -205,9 +205,9 @@ if command -v strace > /dev/null; then
   same 'the first write interrupted'
 fi
 
-# Missing fields take no memory: 4,000 commas and 2,000 records of one field, and 1 MB of such an input.
+# Missing fields take no memory: 4,000 commas before a name, and 2,000 records of one field; and 1 MB of such an input.
 ragged() {
-  { head -c "$2" /dev/zero | tr '\0' ,; echo; yes a | head -n "$3"; } > "$work/input"
+  { head -c "$2" /dev/zero | tr '\0' ,; echo z; yes a | head -n "$3"; } > "$work/input"
   (ulimit -v "$4" && exec timeout 20 "$program" -w 80 "$work/input" > "$work/first" 2> "$work/err")
   echo "$? records: $(grep -c '^record' "$work/first")" > "$work/first.counted"
   mv "$work/first.counted" "$work/first"
