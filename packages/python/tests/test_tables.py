@@ -880,7 +880,8 @@ def csv_of(rows):
 
 def by_csvtable(text, words):
     surroundings = {name: value for name, value in os.environ.items() if name not in ("COLUMNS", "NO_COLOR")}
-    ran = subprocess.run([CSVTABLE, "-d", ",", "-e", "utf-8", *words], input=text.encode(), capture_output=True, env=surroundings)
+    # Without -c, csvtable leaves out last columns that have neither a name nor a field. Rows keep all their columns.
+    ran = subprocess.run([CSVTABLE, "-d", ",", "-e", "utf-8", "-c", "1-", *words], input=text.encode(), capture_output=True, env=surroundings)
     # csvtable prints a note after a drawing if records have more fields than the header.
     said = re.sub(r"^csvtable: standard input: line \d+ has \d+ fields, the header has \d+.*\n", "", ran.stderr.decode())
     return ran.stdout.decode() + said
