@@ -94,6 +94,13 @@ room_by options expansion is_numbered records =
 all_are_drawn : (options : Options) → IsAll options → (rows : List (List Text)) → filled_count (codes "a" ∷ codes "b" ∷ codes "c" ∷ []) rows ≡ 3 → (more : ℕ) → frame_room (length (positions_in options (codes "a" ∷ codes "b" ∷ codes "c" ∷ []) rows) + more) ≡ frame_room (3 + more)
 all_are_drawn options (chosen, dropped) rows three more = rw chosen (rw dropped (rw three refl))
 
+-- a last column without a name is drawn only if one of its fields isn't empty
+blank_last : (options : Options) → IsAll options → positions_in options (codes "a" ∷ codes "b" ∷ [] ∷ []) ((codes "d" ∷ [] ∷ [] ∷ []) ∷ []) ≡ 0 ∷ 1 ∷ []
+blank_last options (chosen, dropped) = rw chosen (rw dropped refl)
+
+filled_last : (options : Options) → IsAll options → positions_in options (codes "a" ∷ codes "b" ∷ [] ∷ []) ((codes "d" ∷ [] ∷ [] ∷ []) ∷ (codes "e" ∷ [] ∷ codes "f" ∷ []) ∷ []) ≡ 0 ∷ 1 ∷ 2 ∷ []
+filled_last options (chosen, dropped) = rw chosen (rw dropped refl)
+
 -- `|_a_|_b_|_c_|` takes thirteen terminal columns, and the numbers take four more
 unfolded : (options : Options) → IsAll options → room_by options Never false three_columns ≡ 13
 unfolded options all = all_are_drawn options all ((codes "d" ∷ codes "e" ∷ []) ∷ []) refl 0
