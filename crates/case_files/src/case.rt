@@ -1,25 +1,28 @@
-//! One case: the wanted lines of its table, and the lines that the table gives.
+//! One case: the lines that it expects, and the lines that are drawn.
 
 use crate::fault::{Fault, Result};
 use crate::words::text;
 use std::alloc::Global;
 
-/// A case that is being read, or has ended.
+/// A case of a file, which is being read or has ended.
 #[derive(Drop)]
 pub struct Case {
     alloc: Global,
-    /// The name, which is empty before a case begins.
+    /// The name of the case, which is empty before the case begins.
     pub name: String,
-    /// The wanted lines, after the kind of each expectation.
+    /// The lines that the case expects. The kind of each expectation, such as `lines`, is before
+    /// its lines.
     pub wanted: Vec<String>,
-    /// The lines that the table gives in their place.
+    /// The lines that are drawn for each expectation, after its kind. The case passes if they are
+    /// equal to `wanted`.
     pub drawn: Vec<String>,
-    /// The first line that can't be read, counted from 1, and the reason.
+    /// The number of the first line of the file that can't be read, counted from 1, and the reason.
+    /// `None` if all lines could be read.
     pub unread: Option<(u64, &'static str)>,
 }
 
 impl Case {
-    /// A case with nothing in it.
+    /// Returns a case without a name, of which no line was read yet.
     pub fn new(alloc: Global) -> Case {
         Case {
             alloc,
@@ -30,39 +33,43 @@ impl Case {
         }
     }
 
-    /// Begins the case of this name.
+    /// Begins the case, and gives it this name.
     pub fn begin(&mut self, name: &str) -> Result<()> {
         Ok(self.name.push_str(name)?)
     }
 
-    /// True if no line was read.
+    /// Returns true if the case hasn't begun, and no line before it was refused.
     pub fn is_new(&self) -> bool {
         self.name.is_empty() && self.unread.is_none()
     }
 
-    /// True if the table gives other lines than the wanted ones.
+    /// Returns true if the drawn lines aren't those that the case expects.
     pub fn differs(&self) -> bool {
         self.drawn.as_slice() != self.wanted.as_slice()
     }
 
-    /// Keeps the first line that can't be read.
+    /// Stores the number of a line that can't be read, and the reason. Has no effect after the
+    /// first such line.
     pub fn refuse(&mut self, line: u64, reason: &'static str) {
         self.unread.get_or_insert((line, reason));
     }
 
-    /// Ends the case at this line.
+    /// Ends the case at the line with this number. A case without expected lines counts as one that
+    /// can't be read.
     pub fn end(&mut self, line: u64) {
         if self.wanted.is_empty() {
             self.refuse(line, "nothing is wanted");
         }
     }
 
-    /// True if a line does nothing: it is empty or a comment, or an earlier line couldn't be read.
+    /// Returns true if a line has no effect: it is empty or a comment, or an earlier line couldn't
+    /// be read.
     pub fn passes_over(&self, line: &str) -> bool {
         self.unread.is_some() || line.is_empty() || line.starts_with('#')
     }
 
-    /// Keeps the result of a line. Only a lack of memory stays an error.
+    /// Takes the result of reading a line with this number. If the line couldn't be read, the
+    /// reason is stored in the case, and `Ok` is returned. The only error is `OutOfMemory`.
     pub fn keep(&mut self, line: u64, done: Result<()>) -> Result<()> {
         match done {
             Err(Fault::NotRead(reason)) => {
@@ -73,13 +80,14 @@ impl Case {
         }
     }
 
-    /// Adds the kind of an expectation, which precedes its lines, both wanted and drawn.
+    /// Begins an expectation: adds its kind to the expected and to the drawn lines.
     pub fn expect(&mut self, kind: &str) -> Result<()> {
         self.wanted.push(String::from_str(self.alloc, kind)?)?;
         Ok(self.drawn.push(String::from_str(self.alloc, kind)?)?)
     }
 
-    /// Adds a wanted line.
+    /// Adds a line that the case expects, after replacing its escapes. Returns `NotRead` before the
+    /// first expectation.
     pub fn want(&mut self, word: &str) -> Result<()> {
         if self.wanted.is_empty() {
             return Err(Fault::NotRead("a line is wanted of nothing"));

@@ -5,7 +5,7 @@ use crate::trial::{Build, Trial};
 use std::alloc::Global;
 use std::process::ExitCode;
 
-/// The cases of a file: the number of each result, and the case that is being read.
+/// The cases of a file: the number of cases with each result, and the case that is being read.
 #[derive(Drop)]
 pub struct Cases<B: Build> {
     alloc: Global,
@@ -14,7 +14,7 @@ pub struct Cases<B: Build> {
 }
 
 impl<B: Build> Cases<B> {
-    /// No case yet.
+    /// Returns `Cases` that have read no line yet.
     pub fn new(alloc: Global) -> Cases<B> {
         Cases {
             alloc,
@@ -23,8 +23,8 @@ impl<B: Build> Cases<B> {
         }
     }
 
-    /// Reads a line: it begins a case, ends it, or belongs to it. A case that ends is tried, and
-    /// its differences are printed.
+    /// Reads the next line of the file, which begins a case, ends it, or belongs to it. At the end
+    /// of a case, its result is counted, and printed if the case didn't pass.
     pub fn take(&mut self, rt: &impl Print, line: &str) -> anyhow::Result<()> {
         self.tally.lines = self.tally.lines.saturating_add(1);
         match line.strip_prefix("case\t") {
@@ -37,8 +37,8 @@ impl<B: Build> Cases<B> {
         }
     }
 
-    /// Prints the number of each result. Returns failure if a case failed or couldn't be read, or
-    /// if there was none.
+    /// Prints the number of cases with each result. Returns `ExitCode::FAILURE` if a case failed or
+    /// couldn't be read, or if there was no case.
     pub fn finish(&mut self, rt: &impl Print) -> anyhow::Result<ExitCode> {
         self.close(rt)?;
         self.tally.print(rt)?;
@@ -56,7 +56,7 @@ impl<B: Build> Cases<B> {
         Ok(())
     }
 
-    // Lines before a case, or a case without an end, can't be tried.
+    // Ends a case without an end, or lines before a case, as one that can't be read.
     fn close(&mut self, rt: &impl Print) -> anyhow::Result<()> {
         if self.trial.case.is_new() {
             return Ok(());

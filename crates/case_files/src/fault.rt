@@ -4,13 +4,13 @@ use comfy_parts::TableError;
 use std::alloc::{AllocError, AllocFailed};
 use thiserror::Error;
 
-/// The reason for which a case can't be tried.
+/// The reason for which a test case can't be tried.
 #[derive(Clone, Copy, Debug, Error)]
 pub enum Fault {
-    /// There is no memory; this ends the whole run.
+    /// Memory ran out. This error ends the whole program.
     #[error("out of memory")]
     OutOfMemory,
-    /// A line can't be read, for this reason.
+    /// A line can't be read. The text is the reason.
     #[error("{0}")]
     NotRead(&'static str),
 }
@@ -35,5 +35,5 @@ impl From<TableError> for Fault {
     }
 }
 
-/// A value, or the reason for which the case can't be tried.
+/// A value, or the reason for which a test case can't be tried.
 pub type Result<T> = std::result::Result<T, Fault>;

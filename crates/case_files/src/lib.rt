@@ -1,5 +1,5 @@
-//! Files of cases, whose words are in FORMAT.md. A crate defines what the lines build, and what is
-//! drawn of it.
+//! Files of test cases, whose format is described in FORMAT.md. A crate that uses them defines the
+//! value that the lines of a case build, and how it is drawn.
 #![tactic(auto)]
 
 mod case;

@@ -13,7 +13,8 @@ pub struct Tally {
 }
 
 impl Tally {
-    /// Counts a case, and prints it if it didn't pass.
+    /// Adds a case to the counts, and prints its name and the reason or the differences if it
+    /// didn't pass.
     pub fn count(&mut self, rt: &impl Print, case: &Case) -> io::Result<()> {
         let name = case.name.as_str();
         if let Some((line, reason)) = case.unread {
@@ -28,12 +29,13 @@ impl Tally {
         Ok(())
     }
 
-    /// True if there was a case, and every case passed.
+    /// Returns true if there was a case, and every case passed.
     pub fn all_passed(&self) -> bool {
         self.passed > 0 && self.failed == 0 && self.not_read == 0
     }
 
-    /// Prints the counts. The number of cases that couldn't be tried is on a line of its own.
+    /// Prints the numbers of cases that passed and failed. The number of cases that couldn't be
+    /// read is on a line above, if there are any.
     pub fn print(&self, rt: &impl Print) -> io::Result<()> {
         if self.not_read > 0 {
             println!(rt; "{} not read", self.not_read)?;
@@ -42,7 +44,7 @@ impl Tally {
     }
 }
 
-// the lines of each expectation after its kind
+// prints the expected lines and the drawn lines, the lines of each expectation after its kind
 fn print_differences(rt: &impl Print, case: &Case) -> io::Result<()> {
     println!(rt; "{}: expected", case.name)?;
     print_lines(rt, case.wanted.as_slice())?;

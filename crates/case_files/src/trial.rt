@@ -5,15 +5,17 @@ use crate::fault::{Fault, Result};
 use crate::words::{first_or_empty, parts};
 use std::alloc::Global;
 
-/// The value that the lines of a case build.
+/// A value that the lines of a case build, such as a table.
 pub trait Build: Drop {
-    /// The value before the first line.
+    /// Returns the value before the first line of a case.
     fn new(alloc: Global) -> Self;
 
-    /// Does what a line requests, given its first word and the words after it.
+    /// Changes the value as a line requests. `first` is the first word of the line, and `words` are
+    /// the words after it. Returns `NotRead` if the line can't be read.
     fn apply(&mut self, first: &str, words: &[&str]) -> Result<()>;
 
-    /// Adds the lines of one kind of expectation, as the value gives them.
+    /// Draws the value in the form that `kind` names, and adds the lines of the drawing to `lines`.
+    /// Returns `NotRead` for an unknown kind.
     fn draw(&mut self, kind: &str, lines: &mut Vec<String>) -> Result<()>;
 }
 
@@ -21,13 +23,13 @@ pub trait Build: Drop {
 #[derive(Drop)]
 pub(crate) struct Trial<B: Build> {
     alloc: Global,
-    // the wanted lines, and those that are given
+    // the expected lines, and those that are drawn
     pub(crate) case: Case,
     built: B,
 }
 
 impl<B: Build> Trial<B> {
-    /// A case with nothing in it.
+    /// Returns a case without a name, of which no line was read yet.
     pub(crate) fn new(alloc: Global) -> Trial<B> {
         Trial {
             alloc,
@@ -36,8 +38,8 @@ impl<B: Build> Trial<B> {
         }
     }
 
-    /// Does what a line requests, unless an earlier line couldn't be read. Only a lack of memory is
-    /// returned as an error.
+    /// Reads the line with this number, unless an earlier line of the case couldn't be read. The
+    /// only error is `OutOfMemory`.
     pub(crate) fn take(&mut self, number: u64, line: &str) -> Result<()> {
         if self.case.passes_over(line) {
             return Ok(());

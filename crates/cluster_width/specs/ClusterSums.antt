@@ -1,4 +1,5 @@
--- The measures of texts, and those of their clusters by themselves.
+-- The measures of texts, which are their widths in terminal columns, and the measures of their
+-- clusters by themselves.
 -- Source: UAX 29 for clusters, unicode-width 0.2.3 for measures.
 use Rattle.std.specs.Prelude.{◌≡◌, ℕ, ◌≤◌, Bool, true, false, not, ◌&&◌, ◌||◌, ◌==◌, chars, List, [], ◌∷◌, ◌++◌, ◌+◌, take, sum_by, IsUtf8}
 use Rattle.std.specs.List.{All, concat}
@@ -21,7 +22,8 @@ clusters text = graphemes true text
 abbrev pub is_presentation : ℕ → Bool
 is_presentation c = (c == 0xFE0E) || (c == 0xFE0F)
 
--- U+FE01, which widens a quotation mark, and one of these two, in any order
+-- one of two neighbouring characters is U+FE01, which widens a quotation mark, and the other is
+-- U+FE0E or U+FE0F
 abbrev pub clash : ℕ → ℕ → Bool
 clash c d = ((c == 0xFE01) && is_presentation d) || (is_presentation c && (d == 0xFE01))
 

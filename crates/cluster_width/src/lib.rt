@@ -5,16 +5,17 @@
 ghost use Rattle.std.specs.Prelude.{ℕ};
 ghost use Rattle.cluster_width.specs.ClusterSums.{ClustersBoundTheMeasure, FrontsBoundTheMeasure, FrontsOfClustersAreBounded, SomeFrontTakesTwoMore, Text};
 
-/// A text measures at most as much as its grapheme clusters together, unless U+FE01 is directly
-/// next to U+FE0E or U+FE0F in it. The same holds for each prefix of whole clusters.
+/// The width of a text in terminal columns is at most the sum of the widths of its grapheme
+/// clusters. The same holds for each prefix of the text that consists of whole clusters. The
+/// condition is that U+FE01 is never directly next to U+FE0E or U+FE0F in the text.
 pub fn clusters_bound_the_measure()
     ensures whole { (text : Text) → ClustersBoundTheMeasure text }
     ensures fronts { (text : Text) (n : ℕ) → FrontsBoundTheMeasure text n }
 {}
 
-/// A prefix of a grapheme cluster, of whole characters, measures at most two terminal columns more
-/// than the cluster. A watch, a zero width joiner and a wavy dash, before U+FE0F, measure exactly
-/// two more.
+/// A prefix of whole characters of a grapheme cluster is at most two terminal columns wider than
+/// the cluster. It is exactly two wider if the cluster is a watch (U+231A), a zero width joiner, a
+/// wavy dash (U+3030) and U+FE0F, and the prefix is the cluster without U+FE0F.
 pub fn fronts_of_clusters_are_bounded()
     ensures most { (text : Text) → FrontsOfClustersAreBounded text }
     ensures least { SomeFrontTakesTwoMore }

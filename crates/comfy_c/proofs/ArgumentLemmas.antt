@@ -46,11 +46,11 @@ parts-clear (byte ∷ text) =
 
 -- the parts of a text are the arguments, after the program's name, of a text that the same zero byte ends
 pub arguments_in : (text front : Text) (line : List Text) → ended front ≡ closed text → line ≡ codes "csvtable" ∷ parts front → IsCommandLine text line
-arguments_in text front line same is = record { arguments = parts front; behind_name = is; hold_no_end = parts-clear front; are_all = ended-parts front ∙ same }
+arguments_in text front line same is = record { arguments = parts front; after_name = is; hold_no_end = parts-clear front; are_all = ended-parts front ∙ same }
 
 -- an empty text has no arguments
 pub no_arguments : (text : Text) (line : List Text) → length text ≡ 0 → line ≡ codes "csvtable" ∷ [] → IsCommandLine text line
-no_arguments text line none is = record { arguments = []; behind_name = is; hold_no_end = All-nil (HasNo 0); are_all = ap closed (sym (nil_from_length text none)) }
+no_arguments text line none is = record { arguments = []; after_name = is; hold_no_end = All-nil (HasNo 0); are_all = ap closed (sym (nil_from_length text none)) }
 
 -- a zero byte at the end is the last byte
 last-ended : (front : Text) → get_or (ended front) (length (ended front) - 1) 0 ≡ 0

@@ -7,7 +7,7 @@ use Rattle.comfy_parts.specs.Text.{Text}
 use Rattle.csv_command.specs.Refusals.{IsRefusedFor}
 use Rattle.csv_command.specs.declared.drawing.Refusal.{Refusal}
 use Rattle.csv_command.specs.declared.drawing.Refusal.TheVariants.{Arguments, Input, OutOfMemory}
-use Rattle.comfy_c.specs.Calls.{IsCommandLine, IsCsvRefusal, IsHanded, with_front}
+use Rattle.comfy_c.specs.Calls.{IsCommandLine, IsCsvRefusal, IsReturned, with_front}
 
 -- ---- the buffer
 
@@ -26,8 +26,8 @@ module _ (P : Text → Type 0) (bytes buffer : Text) {text after : Text} {needed
   in_front fits = subst P (sym (ap₂ take counted put ∙ front-taken bytes buffer fits ∙ same)) so
 
   -- so it is one of the text that the caller gets
-  pub handed : IsHanded P buffer after needed
-  handed = record { text = bytes; is_so = subst P (sym same) so; is_counted = counted; is_put = put }
+  pub returned : IsReturned P buffer after needed
+  returned = record { text = bytes; is_so = subst P (sym same) so; is_counted = counted; is_put = put }
 
 -- ---- drawings
 
@@ -44,7 +44,7 @@ module _ {T E : Type 0} (P : Text → Type 0) (bytes : T → Text) where
 
 -- ---- CSV
 
--- the reason for a missing drawing, for the arguments for which a text stands
+-- the reason for a missing drawing, for the arguments that a text holds
 pub refused_for : (text input : Text) (line : List Text) → IsUtf8 text → IsCommandLine text line → (refusal : Refusal) → IsRefusedFor line input refusal → IsCsvRefusal text input refusal
 refused_for text input line is_text are (Arguments message) is = (IsUtf8-string_bytes message, inl (record { is_text = is_text; arguments = line; are_arguments = are; is_so = is }))
 refused_for text input line is_text are (Input message) is = (IsUtf8-string_bytes message, record { is_text = is_text; arguments = line; are_arguments = are; is_so = is })

@@ -1,4 +1,4 @@
--- Examples of buffers after a call, of the arguments for which bytes stand, and of the settings of rows.
+-- Examples of buffers after a call, of the arguments that bytes hold, and of the settings of rows.
 use Rattle.std.proofs.Common.{◌≡◌, ℕ, [], ◌∷◌, ◌++◌, None, Option, Some, codes, false, refl, true}
 use Rattle.std.proofs.lemmas.List.Elements.{All-cons, All-nil}
 use Rattle.comfy_parts.specs.Text.{HasNo}
@@ -33,7 +33,7 @@ both_ended : IsCommandLine (codes "-w" ++ 0 ∷ codes "60" ++ 0 ∷ []) (codes "
 both_ended =
     record {
       arguments = codes "-w" ∷ codes "60" ∷ [];
-      behind_name = refl;
+      after_name = refl;
       hold_no_end = All-cons (HasNo 0) (codes "-w") (codes "60" ∷ []) refl (All-cons (HasNo 0) (codes "60") [] refl (All-nil (HasNo 0)));
       are_all = refl;
     }
@@ -42,16 +42,16 @@ last_is_open : IsCommandLine (codes "-w" ++ 0 ∷ codes "60") (codes "csvtable" 
 last_is_open =
     record {
       arguments = codes "-w" ∷ codes "60" ∷ [];
-      behind_name = refl;
+      after_name = refl;
       hold_no_end = All-cons (HasNo 0) (codes "-w") (codes "60" ∷ []) refl (All-cons (HasNo 0) (codes "60") [] refl (All-nil (HasNo 0)));
       are_all = refl;
     }
 
 empty_argument : IsCommandLine (0 ∷ []) (codes "csvtable" ∷ [] ∷ [])
-empty_argument = record { arguments = [] ∷ []; behind_name = refl; hold_no_end = All-cons (HasNo 0) [] [] refl (All-nil (HasNo 0)); are_all = refl }
+empty_argument = record { arguments = [] ∷ []; after_name = refl; hold_no_end = All-cons (HasNo 0) [] [] refl (All-nil (HasNo 0)); are_all = refl }
 
 no_arguments : IsCommandLine [] (codes "csvtable" ∷ [])
-no_arguments = record { arguments = []; behind_name = refl; hold_no_end = All-nil (HasNo 0); are_all = refl }
+no_arguments = record { arguments = []; after_name = refl; hold_no_end = All-nil (HasNo 0); are_all = refl }
 
 -- ---- settings of rows
 

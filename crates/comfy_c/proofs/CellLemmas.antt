@@ -52,7 +52,7 @@ one_set all i d below =
 
 -- ---- cells
 
--- the texts behind references
+-- the texts to which references point
 abbrev pub lent : List (Bor Text) → List Text
 lent texts = map (λ (text : Bor Text). text.now) texts
 

@@ -1,4 +1,4 @@
--- Rows whose cells are lent, one after another.
+-- Rows of cells that borrow their texts, one row after another.
 use Rattle.std.proofs.Common.{◌≡◌, ◌≢◌, ◌<◌, ◌≤◌, ◌+◌, ◌-◌, ◌^◌, ◌==◌, ◌++◌, ◌∷◌, ◌∙◌, [], ℕ, Bool, true, false, zero, suc, nat_lt, ⊎_elim, List, Option, Some, None, ap, ap₂, append-nil, append_assoc, arith, drop, get_or, length, map, max, refl, slice_range, sym, take}
 use Rattle.std.proofs.lemmas.Bool.{cases_lt, eqb-false, eqb-true}
 use Rattle.std.proofs.lemmas.Bool.Decides.{nat_tests}

@@ -110,8 +110,8 @@ all = 2 ^ 64 - 1
 abbrev no_width : ℕ
 no_width = 65536
 
-is_asked : (width limit : ℕ) → layout_for (settings width limit) [] [] [] the_rows ≡ Some (the_layout width limit) → (bytes : Text) (is : Drawn width limit bytes) → is.layout ≡ the_layout width limit
-is_asked width limit asked bytes is = same_Some _ _ (sym is.is_layout ∙ asked)
+is_chosen : (width limit : ℕ) → layout_for (settings width limit) [] [] [] the_rows ≡ Some (the_layout width limit) → (bytes : Text) (is : Drawn width limit bytes) → is.layout ≡ the_layout width limit
+is_chosen width limit chosen bytes is = same_Some _ _ (sym is.is_layout ∙ chosen)
 
 are_narrow : All (All (HasCharactersWithin 1)) the_rows
 unfolding wrapping encode
@@ -178,7 +178,7 @@ three_columns = refl
 -- a line that is one terminal column too short
 uneven : ¬ (Drawn no_width all (codes " a\n b \n"))
 uneven is =
-    let kept = subst (λ (layout : Layout). AreStraightLines layout the_rows (codes " a\n b \n")) (is_asked no_width all refl (codes " a\n b \n") is) ((is.keep refl).straight (harmless no_width all) (narrow no_width all)) (record { unmarked = refl; unkept = refl }) (inl (inl (inl are_narrow))) in
+    let kept = subst (λ (layout : Layout). AreStraightLines layout the_rows (codes " a\n b \n")) (is_chosen no_width all refl (codes " a\n b \n") is) ((is.keep refl).straight (harmless no_width all) (narrow no_width all)) (record { unmarked = refl; unkept = refl }) (inl (inl (inl are_narrow))) in
     let own = drawn_lines (ShowsColumns kept.0) no_width (codes " a\n b \n") kept.1 in
     let each : All (ShowsColumns kept.0) (codes " a" ∷ codes " b " ∷ []) = subst (All (ShowsColumns kept.0)) (two_lines (codes " a") (codes " b ") own.lines (found (codes " a\n b \n") own.lines own.are)) own.each in
     let first = shown_columns kept.0 (codes " a") refl (All-head (ShowsColumns kept.0) (codes " a") (codes " b " ∷ []) each) in
@@ -193,7 +193,7 @@ ten = refl
 too_wide : ¬ (Drawn 8 all (codes "0123456789\n"))
 too_wide is =
     let P = KeepsTo 8 (frame_room (framed_columns_in (the_layout 8 all) the_rows)) false in
-    let kept : EachRowsLine P (the_layout 8 all) the_rows (codes "0123456789\n") = subst (λ (layout : Layout). KeepToWidth layout the_rows (codes "0123456789\n")) (is_asked 8 all refl (codes "0123456789\n") is) ((is.keep refl).width (harmless 8 all) (narrow 8 all)) 8 refl (record { unmarked = refl; unkept = refl }) (inl are_narrow) in
+    let kept : EachRowsLine P (the_layout 8 all) the_rows (codes "0123456789\n") = subst (λ (layout : Layout). KeepToWidth layout the_rows (codes "0123456789\n")) (is_chosen 8 all refl (codes "0123456789\n") is) ((is.keep refl).width (harmless 8 all) (narrow 8 all)) 8 refl (record { unmarked = refl; unkept = refl }) (inl are_narrow) in
     let own = drawn_lines P 8 (codes "0123456789\n") kept in
     let line = All-head P (codes "0123456789") [] (subst (All P) (one_line (codes "0123456789") own.lines (found (codes "0123456789\n") own.lines own.are)) own.each) in
     let wide = shown_columns line.columns (codes "0123456789") refl line.shows in
@@ -203,7 +203,7 @@ too_wide is =
 three_rows : ¬ (Drawn no_width 1 (codes " a \n1 of 3 rows\n"))
 unfolding digits
 three_rows is =
-    let kept = subst (λ (layout : Layout). AreStraightLines layout the_rows (codes " a \n1 of 3 rows\n")) (is_asked no_width 1 refl (codes " a \n1 of 3 rows\n") is) ((is.keep refl).straight (harmless no_width 1) (narrow no_width 1)) (record { unmarked = refl; unkept = refl }) (inl (inl (inl are_narrow))) in
+    let kept = subst (λ (layout : Layout). AreStraightLines layout the_rows (codes " a \n1 of 3 rows\n")) (is_chosen no_width 1 refl (codes " a \n1 of 3 rows\n") is) ((is.keep refl).straight (harmless no_width 1) (narrow no_width 1)) (record { unmarked = refl; unkept = refl }) (inl (inl (inl are_narrow))) in
     let noted = kept.1 in
     let made : codes " a \n1 of 3 rows\n" ≡ noted.drawn ++ note_for Row false (Some 1) (Some 2) = noted.joined ∙ ap (λ (count : Option ℕ). noted.drawn ++ note_for Row false (Some 1) count) noted.is_count in
     let letter : ◌≡◌ {A = ℕ} 0x33 0x32 = ap (λ (t : Text). slice_index_or t 6 0) (ap reverse made ∙ reverse-append noted.drawn (note_for Row false (Some 1) (Some 2))) in
@@ -213,7 +213,7 @@ three_rows is =
 called_records : ¬ (Drawn no_width 1 (codes " a \n1 of 2 records\n"))
 unfolding digits
 called_records is =
-    let kept = subst (λ (layout : Layout). AreStraightLines layout the_rows (codes " a \n1 of 2 records\n")) (is_asked no_width 1 refl (codes " a \n1 of 2 records\n") is) ((is.keep refl).straight (harmless no_width 1) (narrow no_width 1)) (record { unmarked = refl; unkept = refl }) (inl (inl (inl are_narrow))) in
+    let kept = subst (λ (layout : Layout). AreStraightLines layout the_rows (codes " a \n1 of 2 records\n")) (is_chosen no_width 1 refl (codes " a \n1 of 2 records\n") is) ((is.keep refl).straight (harmless no_width 1) (narrow no_width 1)) (record { unmarked = refl; unkept = refl }) (inl (inl (inl are_narrow))) in
     let noted = kept.1 in
     let made : codes " a \n1 of 2 records\n" ≡ noted.drawn ++ note_for Row false (Some 1) (Some 2) = noted.joined ∙ ap (λ (count : Option ℕ). noted.drawn ++ note_for Row false (Some 1) count) noted.is_count in
     let letter : ◌≡◌ {A = ℕ} 0x64 0x77 = ap (λ (t : Text). slice_index_or t 2 0) (ap reverse made ∙ reverse-append noted.drawn (note_for Row false (Some 1) (Some 2))) in
@@ -228,7 +228,7 @@ abbrev Padded : ℕ → Text → Type 0
 Padded limit bytes = ShowRows (codes "ab") (1 ∷ 1 ∷ []) (1 ∷ 1 ∷ []) [] [] (wide_column ∷ []) (settings no_width limit) bytes
 
 padded_layout : (limit : ℕ) → layout_for (settings no_width limit) [] [] (wide_column ∷ []) the_rows ≡ Some (the_layout no_width limit) → (bytes : Text) (is : Padded limit bytes) → is.layout ≡ the_layout no_width limit
-padded_layout limit asked bytes is = same_Some _ _ (sym is.is_layout ∙ asked)
+padded_layout limit chosen bytes is = same_Some _ _ (sym is.is_layout ∙ chosen)
 
 -- a line that counts three rows of two
 padded_three_rows : ¬ (Padded 1 (codes "  a  \n1 of 3 rows\n"))

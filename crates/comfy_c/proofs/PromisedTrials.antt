@@ -117,8 +117,8 @@ line_of bytes is =
 
 -- in this form each line has a line feed after it
 terminated : (lines : List Text) (bytes : Text) → AreWritten 0 lines bytes → bytes ≡ terminated_text_of lines
-terminated lines bytes (inl told) = told.1
-terminated lines bytes (inr told) = absurd (omega (arith, told.0))
+terminated lines bytes (inl given) = given.1
+terminated lines bytes (inr given) = absurd (omega (arith, given.0))
 
 -- the line, with a line feed after it
 line_read : (line : Text) (is : Shows (line ++ 0x0A ∷ [])) → (w : ℕ) × (line ≡ repeat w (codes "=")) × (count line ≤ 3)

@@ -72,23 +72,23 @@ module _ (p : TableStyle → Bool) where
       let each = and_parts (p entry.1) (list_all (λ (e : Text × TableStyle). p e.1) table) all in
       style_passes table each.1 i style is
 
-  asked_passes : p compact_style ≡ true → list_all (λ (entry : Text × TableStyle). p entry.1) named_presets ≡ true → (position : ℕ) (style : TableStyle) → style_at position ≡ Some style → p style ≡ true
-  asked_passes own all position style is = by_position (position == 13) is
+  chosen_passes : p compact_style ≡ true → list_all (λ (entry : Text × TableStyle). p entry.1) named_presets ≡ true → (position : ℕ) (style : TableStyle) → style_at position ≡ Some style → p style ≡ true
+  chosen_passes own all position style is = by_position (position == 13) is
     where
       by_position : (b : Bool) → (if b then Some compact_style else preset_at position) ≡ Some style → p style ≡ true
       by_position true found = subst (λ (s : TableStyle). p s ≡ true) (same_Some compact_style style found) own
       by_position false found = style_passes named_presets all position style found
 
 preset_is_one_column : (position : ℕ) (style : TableStyle) → style_at position ≡ Some style → IsOneColumnStyle style
-preset_is_one_column position style is = one_column_characters style (asked_passes has_frame_characters refl refl position style is)
+preset_is_one_column position style is = one_column_characters style (chosen_passes has_frame_characters refl refl position style is)
 
 preset_is_harmless : (position : ℕ) (style : TableStyle) → style_at position ≡ Some style → IsHarmlessStyle style
-preset_is_harmless position style is = not-true _ (asked_passes (λ s. not (list_any (λ (c : Option ℕ). is_replaced (unwrap_or c 0x20)) (style_characters s))) refl refl position style is)
+preset_is_harmless position style is = not-true _ (chosen_passes (λ s. not (list_any (λ (c : Option ℕ). is_replaced (unwrap_or c 0x20)) (style_characters s))) refl refl position style is)
 
 -- a property of each preset, and of the caller's own frame, is one of the style that is used
 module _ (settings : RowsSettings) (P : TableStyle → Type 0) (of_preset : (position : ℕ) (style : TableStyle) → style_at position ≡ Some style → P style) (of_own : settings.style ≡ own_number → P (own_style settings.frame)) where
-  of_asked : (style : TableStyle) → style_for settings.style settings.frame ≡ Some style → P style
-  of_asked style is = by_number (settings.style == own_number) refl is
+  of_chosen : (style : TableStyle) → style_for settings.style settings.frame ≡ Some style → P style
+  of_chosen style is = by_number (settings.style == own_number) refl is
     where
       by_number : (b : Bool) → (settings.style == own_number) ≡ b → (if b then Some (own_style settings.frame) else style_at settings.style) ≡ Some style → P style
       by_number true own found = subst P (same_Some (own_style settings.frame) style found) (of_own (eqb-true settings.style own_number own))
@@ -103,42 +103,42 @@ look_style settings (Some style) None expansion look is = absurd (cc is)
 look_style settings None lines expansion look is = absurd (cc is)
 
 -- the parts of a layout that come from settings and columns
-record IsAsked (settings : RowsSettings) (asked : List RowsColumn) (rows : List (List Text)) (layout : Layout) : Type 0 where
+record IsChosen (settings : RowsSettings) (chosen : List RowsColumn) (rows : List (List Text)) (layout : Layout) : Type 0 where
   pub look : look_for settings ≡ Some layout.look
-  pub columns : columns_for layout.selection asked rows ≡ Some layout.columns
+  pub columns : columns_for layout.selection chosen rows ≡ Some layout.columns
 
-is_asked : (settings : RowsSettings) (looks : List LookNumbers) (heights : List ℕ) (asked : List RowsColumn) (rows : List (List Text)) (layout : Layout) → layout_for settings looks heights asked rows ≡ Some layout → IsAsked settings asked rows layout
-is_asked settings looks heights asked rows layout is = by_test (can_have settings looks heights asked) is
+is_chosen : (settings : RowsSettings) (looks : List LookNumbers) (heights : List ℕ) (chosen : List RowsColumn) (rows : List (List Text)) (layout : Layout) → layout_for settings looks heights chosen rows ≡ Some layout → IsChosen settings chosen rows layout
+is_chosen settings looks heights chosen rows layout is = by_test (can_have settings looks heights chosen) is
   where
     selection : Selection
     selection = selection_for settings
 
-    by_parts : (look : Option Look) (columns : Option ColumnsValue) → look_for settings ≡ look → columns_for selection asked rows ≡ columns → layout_by selection look columns ≡ Some layout → IsAsked settings asked rows layout
+    by_parts : (look : Option Look) (columns : Option ColumnsValue) → look_for settings ≡ look → columns_for selection chosen rows ≡ columns → layout_by selection look columns ≡ Some layout → IsChosen settings chosen rows layout
     by_parts (Some look) (Some columns) look_is columns_is found =
         let same = same_Some _ layout found in
-        subst (IsAsked settings asked rows) same (record { look = look_is; columns = columns_is })
+        subst (IsChosen settings chosen rows) same (record { look = look_is; columns = columns_is })
     by_parts (Some look) None look_is columns_is found = absurd (cc found)
     by_parts None columns look_is columns_is found = absurd (cc found)
 
-    by_test : (b : Bool) → (if b then layout_by selection (look_for settings) (columns_for selection asked rows) else None) ≡ Some layout → IsAsked settings asked rows layout
-    by_test true found = by_parts (look_for settings) (columns_for selection asked rows) refl refl found
+    by_test : (b : Bool) → (if b then layout_by selection (look_for settings) (columns_for selection chosen rows) else None) ≡ Some layout → IsChosen settings chosen rows layout
+    by_test true found = by_parts (look_for settings) (columns_for selection chosen rows) refl refl found
     by_test false found = absurd (cc found)
 
 -- ---- columns
 
-module _ (selection : Selection) (asked : List RowsColumn) (rows : List (List Text)) (columns : ColumnsValue) (is : columns_for selection asked rows ≡ Some columns) where
-  found : (can_be_drawn selection asked rows ≡ true) × (columns_by asked (column_count selection rows) ≡ columns)
-  found = by_test (can_be_drawn selection asked rows) refl is
+module _ (selection : Selection) (chosen : List RowsColumn) (rows : List (List Text)) (columns : ColumnsValue) (is : columns_for selection chosen rows ≡ Some columns) where
+  found : (can_be_drawn selection chosen rows ≡ true) × (columns_by chosen (column_count selection rows) ≡ columns)
+  found = by_test (can_be_drawn selection chosen rows) refl is
     where
-      by_test : (b : Bool) → can_be_drawn selection asked rows ≡ b → (if b then Some (columns_by asked (column_count selection rows)) else None) ≡ Some columns → (can_be_drawn selection asked rows ≡ true) × (columns_by asked (column_count selection rows) ≡ columns)
+      by_test : (b : Bool) → can_be_drawn selection chosen rows ≡ b → (if b then Some (columns_by chosen (column_count selection rows)) else None) ≡ Some columns → (can_be_drawn selection chosen rows ≡ true) × (columns_by chosen (column_count selection rows) ≡ columns)
       by_test true test own = (test, same_Some _ columns own)
       by_test false test own = absurd (cc own)
 
   -- if there are rows, a column is left
   some_left : (length rows == 0) ≡ false → 1 ≤ length columns.drawn
   some_left some =
-      let test = ap (λ (b : Bool). b || (are_there asked (count_in_all selection rows) && not (length (columns_by asked (column_count selection rows)).drawn == 0))) (sym some) ∙ found.0 in
-      let left = not-true _ (and_parts (are_there asked (count_in_all selection rows)) (not (length (columns_by asked (column_count selection rows)).drawn == 0)) test).1 in
+      let test = ap (λ (b : Bool). b || (are_there chosen (count_in_all selection rows) && not (length (columns_by chosen (column_count selection rows)).drawn == 0))) (sym some) ∙ found.0 in
+      let left = not-true _ (and_parts (are_there chosen (count_in_all selection rows)) (not (length (columns_by chosen (column_count selection rows)).drawn == 0)) test).1 in
       let own = ap (λ (c : ColumnsValue). length c.drawn) found.1 in
       grind (arith, left, own)
 
@@ -149,7 +149,7 @@ module _ (selection : Selection) (asked : List RowsColumn) (rows : List (List Te
   are_below unnamed =
       subst (λ (names : List Text). All (λ (k : ℕ). k < count_of names (drawn_rows selection rows)) columns.drawn) unnamed
       (subst (λ (c : ColumnsValue). All (λ (k : ℕ). k < column_count selection rows) c.drawn) found.1
-      (All-filter (λ (position : ℕ). not (side_at asked position == 3)) (λ (k : ℕ). k < column_count selection rows) (range_with_len 0 (column_count selection rows)) in_range))
+      (All-filter (λ (position : ℕ). not (side_at chosen position == 3)) (λ (k : ℕ). k < column_count selection rows) (range_with_len 0 (column_count selection rows)) in_range))
 
 -- ---- texts
 
@@ -168,9 +168,9 @@ rows_are_text (n ∷ counts) fields all =
 not_empty : (n : ℕ) → (suc n == 0) ≡ false
 not_empty n = grind arith
 
-module _ (settings : RowsSettings) (asked : List RowsColumn) (layout : Layout) (output : Text) where
+module _ (settings : RowsSettings) (chosen : List RowsColumn) (layout : Layout) (output : Text) where
   -- the drawing of some rows
-  module _ (rows : List (List Text)) (own : IsAsked settings asked rows layout) (texts : All AllText rows) (some : (length rows == 0) ≡ false) (made : RendersRecords (Some (count_below layout.selection rows)) layout rows output) where
+  module _ (rows : List (List Text)) (own : IsChosen settings chosen rows layout) (texts : All AllText rows) (some : (length rows == 0) ≡ false) (made : RendersRecords (Some (count_below layout.selection rows)) layout rows output) where
     abbrev known : Option ℕ
     known = Some (count_below layout.selection rows)
 
@@ -181,14 +181,14 @@ module _ (settings : RowsSettings) (asked : List RowsColumn) (layout : Layout) (
     style = look_style settings (style_for settings.style settings.frame) (slice_get separators settings.row_lines) (slice_get expansions settings.expansion) layout.look own.look
 
     clear : HasHarmlessFrame settings → IsHarmlessStyle layout.look.style
-    clear harmless = of_asked settings IsHarmlessStyle preset_is_harmless harmless layout.look.style style
+    clear harmless = of_chosen settings IsHarmlessStyle preset_is_harmless harmless layout.look.style style
 
     plain : HasHarmlessFrame settings → HasOneColumnFrame settings → IsPlainLook layout.look → IsPlainOutput known layout rows output
     plain harmless narrow is =
         record {
           kind = is.unmarked;
           unkept = is.unkept;
-          one_column = of_asked settings IsOneColumnStyle preset_is_one_column narrow layout.look.style style;
+          one_column = of_chosen settings IsOneColumnStyle preset_is_one_column narrow layout.look.style style;
           clear = clear harmless;
           text = texts;
           made = made;
@@ -198,7 +198,7 @@ module _ (settings : RowsSettings) (asked : List RowsColumn) (layout : Layout) (
     some_shown harmless is uncut =
         all_shown layout
         (record { unkept = is.unkept; table = is.unmarked; uncut = uncut; style = unbroken_without layout.look.style (clear harmless) })
-        known rows texts output made (some_left layout.selection asked rows layout.columns own.columns some) (are_below layout.selection asked rows layout.columns own.columns) MayCount refl
+        known rows texts output made (some_left layout.selection chosen rows layout.columns own.columns some) (are_below layout.selection chosen rows layout.columns own.columns) MayCount refl
 
     some_harmless : HasHarmlessFrame settings → IsHarmlessFor layout.look output
     some_harmless harmless = harmless_output known layout rows output (clear harmless) texts made
@@ -217,7 +217,7 @@ module _ (settings : RowsSettings) (asked : List RowsColumn) (layout : Layout) (
 
     some_kept : HasHarmlessFrame settings → HasOneColumnFrame settings → KeepToWidth layout rows output
     some_kept harmless narrow w wide is room =
-        keep w known layout rows output wide (plain harmless narrow is) (fits room) (some_left layout.selection asked rows layout.columns own.columns some) (are_below layout.selection asked rows layout.columns own.columns) MayCount rows refl refl
+        keep w known layout rows output wide (plain harmless narrow is) (fits room) (some_left layout.selection chosen rows layout.columns own.columns some) (are_below layout.selection chosen rows layout.columns own.columns) MayCount rows refl refl
       where
         fits : FitTheWidth layout rows → EachField (HasCharactersWithin 1) rows ⊎ CharactersFitEachWidth known layout rows
         fits (inl each) = inl each
@@ -233,7 +233,7 @@ module _ (settings : RowsSettings) (asked : List RowsColumn) (layout : Layout) (
       subst (EachRowsLine P layout []) (sym empty)
       (nothing_drawn P layout (IsCountOf layout []) no_count)
 
-  rows_keep : (rows : List (List Text)) → IsAsked settings asked rows layout → All AllText rows → RendersAnyRecords layout rows output → KeepRowPromises settings layout rows output
+  rows_keep : (rows : List (List Text)) → IsChosen settings chosen rows layout → All AllText rows → RendersAnyRecords layout rows output → KeepRowPromises settings layout rows output
   rows_keep [] own texts made =
       record {
         all = λ harmless look uncut. subst (ShowsAllFields (IsCountOf layout []) layout []) (sym made) (none_of_all (IsCountOf layout []) no_count layout);
@@ -311,14 +311,14 @@ pub shows_rows : ((table : TableValue) (lines : List Text) → IsTableDrawing ta
     → IsRowsDrawing texts lengths counts looks heights columns settings bytes → ShowRows texts lengths counts looks heights columns settings bytes
 shows_rows law texts lengths counts looks heights columns settings bytes is =
     let rows : List (List Text) = rows_of texts lengths counts in
-    let asked = is_asked settings looks heights columns rows is.layout is.is_layout in
-    let kind = look_kind settings (style_for settings.style settings.frame) (slice_get separators settings.row_lines) (slice_get expansions settings.expansion) is.layout.look asked.look in
+    let chosen = is_chosen settings looks heights columns rows is.layout is.is_layout in
+    let kind = look_kind settings (style_for settings.style settings.frame) (slice_get separators settings.row_lines) (slice_get expansions settings.expansion) is.layout.look chosen.look in
     record {
       are_text = is.is_text;
       layout = is.layout;
       is_layout = is.is_layout;
       keep = λ alone.
-          rows_keep settings columns is.layout bytes rows asked (rows_are_text counts (cut_by lengths texts) is.are_texts)
+          rows_keep settings columns is.layout bytes rows chosen (rows_are_text counts (cut_by lengths texts) is.are_texts)
           (without_settings_any is.layout rows bytes (subst (λ (own : SettingsValue). RendersAnyStyledRecords own is.layout rows bytes) (none_set (is_set settings.has_header) counts looks heights columns alone) is.is_output));
       keep_table = λ table some.
           let both = and_parts (settings.expansion == 0) (not (is_set settings.is_markdown)) table in

@@ -10,12 +10,12 @@ use Rattle.csv_records.proofs.CutLemmas.{place_taken}
 use Rattle.csv_records.specs.CutLists.{cut_by, total}
 
 -- the rest after the first parts
-pub behind : {A : Type 0} (n : ℕ) (ns : List ℕ) (xs : List A) → drop (total ns) (drop n xs) ≡ drop (total (n ∷ ns)) xs
-behind n ns xs = drop-drop (total ns) n xs ∙ ap (λ (k : ℕ). drop k xs) (sym (sum_by-cons (λ m. m) n ns))
+pub after : {A : Type 0} (n : ℕ) (ns : List ℕ) (xs : List A) → drop (total ns) (drop n xs) ≡ drop (total (n ∷ ns)) xs
+after n ns xs = drop-drop (total ns) n xs ∙ ap (λ (k : ℕ). drop k xs) (sym (sum_by-cons (λ m. m) n ns))
 
 cut_more : {A : Type 0} (ns : List ℕ) (n : ℕ) (xs : List A) → cut_by (ns ++ n ∷ []) xs ≡ cut_by ns xs ++ take n (drop (total ns) xs) ∷ []
 cut_more [] n xs = refl
-cut_more (m ∷ ns) n xs = ap (λ ys. take m xs ∷ ys) (cut_more ns n (drop m xs) ∙ ap (λ ys. cut_by ns (drop m xs) ++ take n ys ∷ []) (behind m ns xs))
+cut_more (m ∷ ns) n xs = ap (λ ys. take m xs ∷ ys) (cut_more ns n (drop m xs) ∙ ap (λ ys. cut_by ns (drop m xs) ++ take n ys ∷ []) (after m ns xs))
 
 -- in a loop over lengths: one part more, and the distance of its end from the front
 pub one_cut : {A : Type 0} (ns : List ℕ) (i d : ℕ) → i < length ns → (xs : List A)
@@ -28,7 +28,7 @@ pub in_cut : {A : Type 0} (P : List A → Type 0) (ns : List ℕ) (i d : ℕ) �
 in_cut P [] i d below xs all = absurd (omega (arith, below))
 in_cut P (n ∷ ns) zero d below xs all = All-head P (take n xs) (cut_by ns (drop n xs)) all
 in_cut P (n ∷ ns) (suc i) d below xs all =
-    subst (λ ys. P (take (slice_index_or ns i d) ys)) (behind n (take i ns) xs) (in_cut P ns i d (omega (arith, below)) (drop n xs) (All-tail P (take n xs) (cut_by ns (drop n xs)) all))
+    subst (λ ys. P (take (slice_index_or ns i d) ys)) (after n (take i ns) xs) (in_cut P ns i d (omega (arith, below)) (drop n xs) (All-tail P (take n xs) (cut_by ns (drop n xs)) all))
 
 -- there are as many parts as lengths
 pub length-cut_by : {A : Type 0} (ns : List ℕ) (xs : List A) → length (cut_by ns xs) ≡ length ns

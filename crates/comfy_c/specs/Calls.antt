@@ -3,19 +3,20 @@
 use Rattle.std.specs.Prelude.{◌≡◌, ◌⊎◌, ◌-◌, ◌^◌, ℕ, Bool, not, nat_le, ◌==◌, List, [], ◌∷◌, ◌++◌, All, Option, Some, None, IsUtf8, codes, drop, flat_map, length, slice_index, string_bytes, if◌then◌else◌}
 use Rattle.comfy_parts.specs.Text.{HasNo, Text}
 use Rattle.csv_command.specs.Ending.{argument_not_utf8}
-use Rattle.csv_command.specs.Refusals.{IsRendered, IsSaidOfInput, IsSaidOfArguments}
+use Rattle.csv_command.specs.Refusals.{IsRendered, IsMessageOnInput, IsMessageOnArguments}
 use Rattle.csv_command.specs.declared.drawing.Refusal.{Refusal}
 use Rattle.csv_command.specs.declared.drawing.Refusal.TheVariants.{Arguments, Input, OutOfMemory}
 
 -- ---- the buffer
 
--- a buffer with a text at its front if there is room for all of it, and otherwise the same buffer
+-- the buffer with a text copied to its front, if it has room for the whole text; otherwise the
+-- buffer unchanged
 abbrev pub with_front : Text → Text → Text
 with_front text buffer =
     if nat_le (length text) (length buffer) then text ++ drop (length text) buffer else buffer
 
 -- the caller gets the length of a text with property P, and the text if its buffer has room for it
-pub record IsHanded (P : Text → Type 0) (buffer : Text) (after : Text) (needed : ℕ) : Type 0 where
+pub record IsReturned (P : Text → Type 0) (buffer : Text) (after : Text) (needed : ℕ) : Type 0 where
   pub text : Text
   pub is_so : P text
   pub is_counted : needed ≡ length text
@@ -41,20 +42,20 @@ limit_of number = if number == 2 ^ 64 - 1 then None else Some number
 abbrev pub ended : Text → Text
 ended argument = argument ++ 0 ∷ []
 
--- a text with a zero byte at its end, unless it is empty
+-- a text with a zero byte at its end, which is appended if it is missing; an empty text stays empty
 abbrev pub closed : Text → Text
 closed text = if slice_index text (length text - 1) == 0 then text else ended text
 
--- The arguments of a call of `csvtable`, for which a text stands: the program's name, and arguments
--- without zero bytes. With a zero byte after each argument they are the text. The last zero byte of
--- the text may be missing.
+-- The arguments of a call of `csvtable` that a text holds: the program's name, and arguments
+-- without zero bytes. The text is these arguments, with a zero byte after each. The last zero byte
+-- of the text may be missing.
 pub record IsCommandLine (text : Text) (line : List Text) : Type 0 where
   pub arguments : List Text
-  pub behind_name : line ≡ codes "csvtable" ∷ arguments
+  pub after_name : line ≡ codes "csvtable" ∷ arguments
   pub hold_no_end : All (HasNo 0) arguments
   pub are_all : flat_map ended arguments ≡ closed text
 
--- P holds for the arguments for which a caller's bytes stand
+-- a caller's bytes are UTF-8, and P holds for the arguments that they hold
 pub record IsForArguments (P : List Text → Type 0) (bytes : Text) : Type 0 where
   pub is_text : IsUtf8 bytes
   pub arguments : List Text
@@ -69,13 +70,13 @@ IsCsvDrawing bytes input drawing =
 -- `message` is the line about an input that can't be drawn as the arguments request
 abbrev pub IsInputMessage : Text → Text → Text → Type 0
 IsInputMessage bytes input message =
-    IsUtf8 message × IsForArguments (λ arguments. IsSaidOfInput arguments input message) bytes
+    IsUtf8 message × IsForArguments (λ arguments. IsMessageOnInput arguments input message) bytes
 
 -- `message` is the text for arguments that request no drawing, or aren't UTF-8
 abbrev pub IsArgumentsMessage : Text → Text → Type 0
 IsArgumentsMessage bytes message =
     IsUtf8 message
-    × (IsForArguments (λ arguments. IsSaidOfArguments arguments message) bytes
+    × (IsForArguments (λ arguments. IsMessageOnArguments arguments message) bytes
     ⊎ ¬ (IsUtf8 bytes) × (message ≡ argument_not_utf8))
 
 -- the reason for a missing drawing

@@ -54,7 +54,8 @@ header_among settings rows = if is_set settings.has_header then slice_get rows 0
 abbrev pub below_header : CellsSettings → List RowValue → List RowValue
 below_header settings rows = if is_set settings.has_header then drop 1 rows else rows
 
--- a table of these, with the width and the styling that the caller sets; no terminal is consulted
+-- the table of these arguments, with the width and the styling that the caller sets; no terminal is
+-- consulted
 abbrev pub table_by : Option RowValue → List RowValue → List ColumnNumbers → Text → CellsSettings
     → TableStyle → ContentArrangement → TableValue
 table_by header rows columns indicator settings style arrangement =
@@ -75,13 +76,14 @@ table_by header rows columns indicator settings style arrangement =
       custom_styling = is_set settings.custom_styling;
     }
 
--- the same for rows of which the first may be the header
+-- the table of rows of which the first may be the header, with the caller's settings
 abbrev pub table_with : List RowValue → List ColumnNumbers → Text → CellsSettings → TableStyle
     → ContentArrangement → TableValue
 table_with rows columns indicator settings =
     table_by (header_among settings rows) (below_header settings rows) columns indicator settings
 
--- numbers and texts describe this table: they add up, and style and arrangement are known
+-- numbers and texts describe this table: lengths and counts add up, and the numbers of style and
+-- arrangement have a meaning
 pub record IsDescribed (texts : Text) (cells : List CellNumbers) (rows : List RowNumbers)
     (columns : List ColumnNumbers) (indicator : Text) (settings : CellsSettings)
     (table : TableValue) : Type 0 where
@@ -107,7 +109,7 @@ AreWritten form lines drawing =
     (form ≡ 0) × (drawing ≡ terminated_text_of lines)
     ⊎ (form ≡ 1) × (drawing ≡ trimmed_text_of lines)
 
--- the requested form of a table: its lines, or the widths of its contents
+-- the requested form of a table: its lines in one of two forms, or the widths of its contents
 abbrev pub IsInForm : ℕ → TableValue → Text → Type 0
 IsInForm form table drawing =
     ((lines : List Text) × IsTableDrawing table lines × AreWritten form lines drawing)
@@ -124,7 +126,7 @@ pub record IsCellsDrawing (texts : Text) (cells : List CellNumbers) (rows : List
 
 -- ---- refusals
 
--- the lengths aren't those of the texts, or the counts aren't those of the cells
+-- the lengths don't add up to the length of all texts, or the counts to the number of cells
 abbrev pub DoNotAddUp : Text → List CellNumbers → List RowNumbers → Type 0
 DoNotAddUp texts cells rows = ¬ (AddUp texts (lengths_of cells) (counts_of rows))
 

@@ -39,7 +39,7 @@ rows_by [] heights = []
 rows_by (looks ∷ rows) heights =
     row_settings looks (slice_index heights 0) ∷ rows_by rows (drop 1 heights)
 
--- the settings of a row without any
+-- a row without settings
 abbrev pub unset_row : RowSettingsValue
 unset_row = record { max_height = None; cells = [] }
 

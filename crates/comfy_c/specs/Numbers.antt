@@ -27,8 +27,8 @@ use Rattle.comfy_c.specs.declared.cells_rows.RowNumbers.{RowNumbers}
 
 -- ---- cells
 
--- The character with this number. `None` for 0, and for a number that is no character's. The number
--- after the greatest character's stands for U+0000.
+-- The character with this code point. `None` for 0, and for a number that isn't the code point of a
+-- character. The number after the greatest code point means U+0000.
 abbrev pub char_of : ℕ → Option ℕ
 char_of number =
     if number == 0

@@ -40,7 +40,7 @@ abbrev pub HasHarmlessFrame : RowsSettings → Type 0
 HasHarmlessFrame settings =
     settings.style ≡ own_number → IsHarmlessStyle (own_style settings.frame)
 
--- each character of such a frame takes one terminal column
+-- each character of a frame of the caller's own, if it is used, takes one terminal column
 abbrev pub HasOneColumnFrame : RowsSettings → Type 0
 HasOneColumnFrame settings =
     settings.style ≡ own_number → IsOneColumnStyle (own_style settings.frame)
@@ -59,19 +59,19 @@ pub record AreDrawnWhole (layout : Layout) (rows : List (List Text)) : Type 0 wh
   pub uncut : layout.look.max_height ≡ None
   pub plain : EachField IsPlainField rows
 
--- Each character of each text takes at most one terminal column. Otherwise each takes at most two,
--- and the width has room for two in each column of the frame.
+-- Each character of each text takes at most one terminal column. Or each takes at most two, and the
+-- width has room for two in each column of the frame.
 abbrev pub FitTheWidth : Layout → List (List Text) → Type 0
 FitTheWidth layout rows = HaveRoomEach layout.look.width (framed_columns_in layout rows) rows
 
--- Each character of each text has room in its column. It fits the width in this way, or there is no
--- width, or the widths that are arranged for the table have room.
+-- Each character of each text has room in its column. The characters fit the width, or texts are
+-- drawn whole without a width, or the widths that are arranged for the table have room.
 abbrev pub HaveRoom : Layout → List (List Text) → Type 0
 HaveRoom layout rows =
     (FitTheWidth layout rows ⊎ AreDrawnWhole layout rows)
     ⊎ CharactersFitEachWidth (Some (count_below layout.selection rows)) layout rows
 
--- in this case all drawn lines show the same number of terminal columns
+-- if characters have room, all drawn lines show the same number of terminal columns
 abbrev pub AreStraightLines : Layout → List (List Text) → Text → Type 0
 AreStraightLines layout rows bytes =
     IsPlainLook layout.look → HaveRoom layout rows
@@ -110,8 +110,8 @@ table_by settings layout has_separators rows =
     (with_centers settings.columns
     (selected_of (Some (count_below layout.selection rows)) layout rows)))
 
--- The bytes are the lines of that table, which keep each promise on a table's lines. The line that
--- counts rows follows if not all are drawn.
+-- The bytes are the lines of the table `table_by`, which keep each promise on a table's lines. The
+-- line that counts rows follows if not all rows are drawn.
 pub record KeepTablePromises (settings : SettingsValue) (layout : Layout) (rows : List (List Text))
     (bytes : Text) : Type 0 where
   pub has_separators : Bool

@@ -14,7 +14,8 @@ use Rattle.comfy_c.specs.declared.rows_settings.RowsSettings.{RowsSettings}
 use Rattle.csv_tables.specs.declared.options.Expansion.{Expansion}
 use Rattle.csv_tables.specs.declared.options.RowSeparators.{RowSeparators}
 
--- the position of the first of these that is missing or false, counted from 1, or 0 for none
+-- the position of the first argument that is missing or false, counted from 1, or 0 if there is
+-- none
 abbrev pub first_missing : Option TableStyle → Option RowSeparators → Option Expansion → Bool
     → Bool → ℕ
 first_missing None lines expansion sides settings = 1
@@ -25,7 +26,7 @@ first_missing (Some style) (Some lines) (Some expansion) true false = 5
 first_missing (Some style) (Some lines) (Some expansion) true true = 0
 
 -- the first wrong setting of a table of rows: a style, lines between rows, an expansion, the sides
--- of columns, or settings that only a table with one row for each record may have
+-- of columns, or settings that Markdown and expanded rows can't have
 abbrev pub refused_of_rows : RowsSettings → List LookNumbers → List ℕ → List RowsColumn → ℕ
 refused_of_rows settings looks heights columns =
     first_missing (style_for settings.style settings.frame)

@@ -34,7 +34,7 @@ separators = Styled ∷ Needed ∷ Never ∷ []
 abbrev pub expansions : List Expansion
 expansions = NeverExpanded ∷ Auto ∷ Always ∷ []
 
--- a look with these, if none is missing
+-- the look with this style and these rules, if none of the three is missing
 abbrev pub look_by : RowsSettings → Option TableStyle → Option RowSeparators → Option Expansion
     → Option Look
 look_by settings (Some style) (Some lines) (Some expansion) =
@@ -102,8 +102,8 @@ layout_for settings looks heights columns rows =
     (columns_for (selection_for settings) columns rows)
     else None
 
--- the lengths are those of all texts and the counts those of all rows, and so are the looks and
--- heights
+-- lengths and counts add up; there is no look or one for each text, and no height or one for each
+-- row
 abbrev pub AllAddUp : Text → List ℕ → List ℕ → List LookNumbers → List ℕ → Type 0
 AllAddUp texts lengths counts looks heights =
     AddUp texts lengths counts × (are_each looks lengths heights counts ≡ true)

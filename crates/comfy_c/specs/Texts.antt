@@ -10,7 +10,7 @@ use Rattle.csv_records.specs.CutLists.{cut_by, total}
 abbrev pub rows_of : Text → List ℕ → List ℕ → List (List Text)
 rows_of texts lengths counts = cut_by counts (cut_by lengths texts)
 
--- the lengths are those of all texts, and the counts those of all rows
+-- the lengths add up to the length of all texts, and the counts to the number of lengths
 abbrev pub AddUp : Text → List ℕ → List ℕ → Type 0
 AddUp texts lengths counts = (total lengths ≡ length texts) × (total counts ≡ length lengths)
 

@@ -7,8 +7,9 @@ use std::alloc::{AllocError, Global};
 
 const PROGRAM: &str = "csvtable";
 
-/// The program's name, and then the arguments in a text. A zero byte ends each argument; that of
-/// the last one may be missing. An empty text has no arguments.
+/// Returns the program's name, and after it the arguments that `text` holds. A zero byte ends each
+/// argument. The zero byte of the last argument may be missing. An empty text holds no arguments.
+/// The only error is that memory ran out.
 pub(crate) fn command_line(alloc: Global, text: &str) -> Result<Vec<&str>, AllocError>
     ensures { IfOk result (λ arguments.
         IsCommandLine text.now (map (λ argument. argument.now) arguments.items)) }
@@ -24,7 +25,7 @@ pub(crate) fn command_line(alloc: Global, text: &str) -> Result<Vec<&str>, Alloc
     Ok(arguments)
 }
 
-// A text without the zero byte at its end, if it has one.
+// The text without the zero byte at its end, if there is such a byte.
 fn without_end(text: &str) -> &str
     ensures { 0 < length text.now → ended result.now ≡ closed text.now }
 {

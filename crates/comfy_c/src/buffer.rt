@@ -1,4 +1,4 @@
-//! The caller's buffer.
+//! Copies an output into the caller's buffer.
 
 ghost use Rattle.std.specs.Prelude.{◌≡◌, ◌≢◌, ◌≤◌, ◌<◌, IsErrOf, IsOkAnd, drop, length, nat_le, string_bytes, take};
 ghost use Rattle.comfy_c.specs.Calls.{with_front};
@@ -6,7 +6,7 @@ ghost use Rattle.comfy_c.specs.declared.refusal.DrawRefusal.TheVariants as refus
 
 use crate::refusal::DrawRefusal;
 
-// The numbers that the functions return.
+// The numbers that the functions for C return.
 
 pub(crate) const DRAWN: u32 = 0;
 
@@ -20,8 +20,9 @@ pub(crate) const SETTINGS_REFUSED: u32 = 4;
 
 pub(crate) const LENGTHS_REFUSED: u32 = 5;
 
-/// Copies bytes to the front of the caller's buffer, if it has room for all of them, and sets
-/// `needed` to their number. Returns true if it had room. Otherwise the buffer is unchanged.
+/// Copies `bytes` to the front of the caller's buffer, if it has room for all of them, and sets
+/// `needed` to the number of bytes. Returns true if the buffer had room. Otherwise the buffer is
+/// unchanged.
 pub(crate) fn put(bytes: &[u8], output: &mut [u8], needed: &mut usize) -> bool
     ensures fits { result ≡ nat_le (length bytes.now) (length output.old) }
     ensures needed { needed.new ≡ length bytes.now }
@@ -35,8 +36,10 @@ pub(crate) fn put(bytes: &[u8], output: &mut [u8], needed: &mut usize) -> bool
     true
 }
 
-/// Puts a drawing into the caller's buffer, if there is one. Returns the number for the drawing or
-/// for the refusal. The buffer is changed only with 0, and `needed` only with 0 and 1.
+/// Copies the drawing in `made` to the front of the caller's buffer, if there is a drawing and the
+/// buffer has room for it. Returns 0 if it was copied, 1 if the buffer is too small, and otherwise
+/// the number for the refusal. The buffer is changed only if 0 is returned, and `needed` only if 0
+/// or 1 is returned.
 pub(crate) fn hand_over(
     made: Result<String, DrawRefusal>,
     output: &mut [u8],

@@ -8,37 +8,44 @@ use comfy_parts::Column;
 use comfy_parts::style::{ColumnConstraint, Width};
 use std::alloc::{AllocError, Global};
 
-/// A width of a constraint.
+/// A width in the constraint of a column of a table of cells.
 #[derive(Clone, Copy, Debug)]
 #[repr(C)]
 pub struct WidthNumbers {
-    /// A flag: `value` is a percentage of the table's width without its borders. If the flag isn't
-    /// set, `value` is in terminal columns.
+    /// A flag, which is set if it isn't 0: `value` is a percentage of the table's width without its
+    /// borders. If the flag isn't set, `value` is in terminal columns.
     pub is_percentage: u16,
+    /// The percentage, or the number of terminal columns. A percentage above 100 counts as 100.
     pub value: u16,
 }
 
-/// A column.
+/// The settings of a column of a table of cells.
 #[derive(Clone, Copy, Debug)]
 #[repr(C)]
 pub struct ColumnNumbers {
-    /// The terminal columns left free at the left of contents.
+    /// The number of terminal columns that stay free at the left of the column's texts.
     pub left_padding: u16,
-    /// The terminal columns left free at the right of contents.
+    /// The number of terminal columns that stay free at the right of the column's texts.
     pub right_padding: u16,
-    /// The character at which texts may break; 0 for none.
+    /// The code point of the character at which texts may break; 0 for the delimiter of the table.
     pub delimiter: u32,
-    /// The alignment of texts, as in a cell.
+    /// The alignment of texts that have none of their own: 1 for left, 2 for right, 3 for centred.
+    /// Any other number means left.
     pub alignment: u32,
-    /// The constraint: 1 if the column isn't drawn, 2 if it is as wide as its content, 3 if its
-    /// width is `width`. The width is at least `width` with 4, at most `width` with 5, and from
-    /// `width` to `upper` with 6. Any other number sets no constraint.
+    /// The constraint on the width of the column, which includes its paddings. With 1 the column
+    /// isn't drawn. With 2 it is as wide as its widest text and its paddings, and with 3 its width
+    /// is `width`. The width is at least `width` with 4, at most `width` with 5, and from `width`
+    /// to `upper` with 6. Any other number sets no constraint. A percentage is no constraint if the
+    /// table has no width.
     pub constraint: u32,
+    /// The width of the constraints 3, 4 and 5, and the least width of 6. Otherwise this field has
+    /// no effect.
     pub width: WidthNumbers,
+    /// The greatest width of the constraint 6. Otherwise this field has no effect.
     pub upper: WidthNumbers,
 }
 
-/// The columns that these numbers describe.
+/// The columns that these numbers describe, in order. The only error is that memory ran out.
 pub(crate) fn columns_of(
     alloc: Global,
     numbers: &[ColumnNumbers],

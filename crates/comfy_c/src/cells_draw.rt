@@ -30,13 +30,13 @@ const TRIMMED: u32 = 1;
 
 pub(crate) const CONTENT_WIDTHS: u32 = 2;
 
-/// Draws a table into the caller's buffer: one of cells, rows, columns and settings as
-/// `comfy_table::Table` has them.
+/// Draws a table of cells into the caller's buffer, as `comfy_table::Table` draws a table with
+/// these cells, rows, columns and settings.
 ///
 /// `texts` has the texts of all cells in their order, without anything between them. `cells` has
-/// their lengths and settings, `rows` the number of cells of each row, and `columns` the settings
-/// of the columns. A cell that has no column isn't drawn. `indicator` is drawn at the end of a line
-/// at which a row's height cuts a text.
+/// the length and the settings of each text, `rows` the number of cells of each row, and `columns`
+/// the settings of each column. A cell that has no column isn't drawn. `indicator` is drawn at the
+/// end of a text that the greatest height of its row cuts.
 ///
 /// | Returned | Meaning | `needed` |
 /// |---|---|---|
@@ -45,7 +45,7 @@ pub(crate) const CONTENT_WIDTHS: u32 = 2;
 /// | 2 | lengths and counts add up, but a text or the indicator isn't UTF-8 | unchanged |
 /// | 3 | memory ran out | unchanged |
 /// | 4 | `form`, `style` or `arrangement` has no meaning | unchanged |
-/// | 5 | lengths or counts don't add up | unchanged |
+/// | 5 | lengths don't add up to all texts, or counts don't add up to all cells | unchanged |
 ///
 /// Settings are checked first, then lengths and counts, and last the texts and the indicator.
 ///
@@ -109,7 +109,7 @@ fn cells_drawing(
 }
 
 // The lines of the table without the white space at their ends, or the widths of its contents. This
-// is never inlined, because each drawing would then pay for the size of the table in it.
+// function is never inlined, because each drawing would then pay for the size of the table in it.
 #[inline(never)]
 fn other_drawing(
     alloc: Global,
@@ -166,15 +166,15 @@ fn lines_of(
     Ok(text)
 }
 
-// The most bytes of most drawings. `bytes` is the length of all texts, and `cells` the number of
-// cells.
+// A number of bytes that is enough for most drawings. `bytes` is the length of all texts, and
+// `cells` the number of cells.
 fn room_for(bytes: usize, cells: usize) -> usize {
     bytes
         .saturating_mul(3)
         .saturating_add(cells.saturating_mul(16))
 }
 
-// The table that numbers and texts describe. Its texts are lent.
+// The table that numbers and texts describe. Its cells borrow their texts from the caller.
 fn lent_table<'a>(
     alloc: Global,
     texts: &'a [u8],
@@ -191,7 +191,7 @@ fn lent_table<'a>(
     ensures refused { IfErr result (λ refusal. IsCellsRefusal texts.now cells.now
         rows.now indicator.now settings.now refusal) }
 {
-    let (style, arrangement) = asked_for(settings)?;
+    let (style, arrangement) = chosen_by(settings)?;
     let found = cell_texts(alloc, rows, cells, texts)?;
     let found = found.as_slice();
     let header = header_of(alloc, settings, rows, cells, found)?;
@@ -228,7 +228,7 @@ fn table_of(
     ensures refused { IfErr result (λ refusal.
         IsCellsRefusal texts.now cells.now rows.now indicator.now settings.now refusal) }
 {
-    let (style, arrangement) = asked_for(settings)?;
+    let (style, arrangement) = chosen_by(settings)?;
     let (header, rows) = parted(settings, rows_of(alloc, rows, cells, texts)?);
     let table = table_by(
         alloc,
@@ -243,13 +243,13 @@ fn table_of(
     Ok(table)
 }
 
-// The style and the arrangement that settings choose. They are refused if one of the numbers has no
-// meaning.
-fn asked_for(settings: &CellsSettings) -> Result<(TableStyle, ContentArrangement), DrawRefusal>
-    ensures style { IfOk result (λ asked.
-        style_for settings.now.style settings.now.frame ≡ Some asked.0) }
-    ensures arrangement { IfOk result (λ asked.
-        slice_get arrangements settings.now.arrangement ≡ Some asked.1) }
+// The style and the arrangement that settings choose. The settings are refused if one of these two
+// numbers has no meaning.
+fn chosen_by(settings: &CellsSettings) -> Result<(TableStyle, ContentArrangement), DrawRefusal>
+    ensures style { IfOk result (λ chosen.
+        style_for settings.now.style settings.now.frame ≡ Some chosen.0) }
+    ensures arrangement { IfOk result (λ chosen.
+        slice_get arrangements settings.now.arrangement ≡ Some chosen.1) }
     ensures refused { IfErr result (λ r. (r ≡ refusal.Settings)
         × IsUnknown settings.now) }
 {

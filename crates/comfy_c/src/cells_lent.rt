@@ -1,4 +1,4 @@
-//! A table of cells whose texts are the caller's.
+//! A table of cells that borrow their texts from the caller.
 
 ghost use Rattle.std.specs.Prelude.{◌≡◌, ◌≤◌, ◌+◌, ◌++◌, ◌==◌, [], ℕ, IfOk, OnOk, if◌then◌else◌, length, map, max, slice_get, string_bytes, true};
 ghost use Rattle.std.specs.List.{slice_index_or};
@@ -17,7 +17,8 @@ use comfy_table::{ArrangedTable, PartEnds, Result, RowWriter, Table};
 use std::alloc::{AllocError, Global};
 use std::marker::Model;
 
-/// A table whose rows are drawn without being made, from cells of texts that are lent.
+/// A table that is drawn without a `Row` for each row. The cells of the table borrow their texts
+/// from the caller.
 #[derive(Drop)]
 pub(crate) struct LentTable<'a> {
     // its header, its columns and its settings, without rows
@@ -50,7 +51,8 @@ impl<'a> Model for LentTable<'a> {
 }
 
 impl<'a> LentTable<'a> {
-    /// The table with rows of these cells.
+    /// Returns the table with these rows below its header. `table` has no rows. `cells` has the
+    /// cells of all `rows`, in the order of the rows. The only error is `OutOfMemory`.
     pub fn new(
         alloc: Global,
         table: Table,
@@ -106,7 +108,7 @@ impl<'a> TableSource for LentTable<'a> {
     }
 }
 
-/// Appends the lines of a table, each with a line feed after it.
+/// Appends the lines of a table, each with a line feed after it. The only error is `OutOfMemory`.
 pub(crate) fn push_table(text: &mut String, arranged: &ArrangedTable<LentTable<'_>>) -> Result<()>
     ensures { OnOk result (string_bytes text.new ≡ string_bytes text.old
         ++ terminated_text_of (drawing_of_infos arranged.now.contents arranged.now.infos)) }
@@ -147,7 +149,7 @@ fn push_rows(
     writer.push_rows(text, &[], end)
 }
 
-// Raises widths until they have room for the cells of these rows.
+// Raises the widths of columns until each has room for its cells in these rows.
 fn widen_rows(
     widths: &mut Vec<u16>,
     table: &Table,
@@ -168,7 +170,7 @@ fn widen_rows(
     Ok(())
 }
 
-// Raises widths until they have room for the cells of a row.
+// Raises the widths of columns until each has room for its cell in a row.
 fn widen_row(widths: &mut Vec<u16>, table: &Table, cells: &[RowCell<'_>]) -> Result<(), AllocError>
     ensures { OnOk result ((i : ℕ) → slice_index_or widths.new.items i 0
         ≡ max (slice_index_or widths.old.items i 0) (measured_at table.now cell_content_width
@@ -207,7 +209,8 @@ fn lengthen(widths: &mut Vec<u16>, position: usize) -> Result<(), AllocError>
 }
 
 // The longest line of the cells at a position of these rows, as they are wrapped in a column, in
-// terminal columns. If it is above the limit, the result is above the limit too, and may be less.
+// terminal columns. If it is above `limit`, the result is some number above `limit`, which may be
+// less than the longest line.
 fn longest_in_rows(
     table: &Table,
     rows: &[RowNumbers],

@@ -1,4 +1,4 @@
-//! The meaning of the numbers of a cell.
+//! The characters, alignments, colours and attributes that a caller's numbers mean.
 
 ghost use Rattle.std.specs.Prelude.{◌≡◌, [], None, IfOk, IfSome, slice_index_or, true};
 ghost use Rattle.comfy_table.specs.Styling.{all_attributes};
@@ -9,32 +9,43 @@ use comfy_parts::style::{Attribute, CellAlignment, Color};
 use csv_tables::CellSettings;
 use std::alloc::{AllocError, Global};
 
-/// A colour.
+/// A colour of a text or of its background, as numbers.
 #[derive(Clone, Copy, Debug)]
 #[repr(C)]
 pub struct ColorNumbers {
-    /// 1 for the terminal's own colour, 2 for the colour `number` of 256 colours, and 3 for a
-    /// colour by its red, green and blue parts. Any other number sets no colour.
+    /// The kind of the colour. 1 is the terminal's default colour, 2 the colour `number` of 256
+    /// colours, and 3 a colour with the parts `red`, `green` and `blue`. Any other number sets no
+    /// colour.
     pub kind: u8,
+    /// The index of the colour among 256 colours, if `kind` is 2. Otherwise this field has no
+    /// effect.
     pub number: u8,
+    /// The red part of the colour, if `kind` is 3. Otherwise this field has no effect.
     pub red: u8,
+    /// The green part of the colour, if `kind` is 3. Otherwise this field has no effect.
     pub green: u8,
+    /// The blue part of the colour, if `kind` is 3. Otherwise this field has no effect.
     pub blue: u8,
 }
 
-/// The look of a text.
+/// The look of a text, as numbers: its alignment, colours and attributes.
 #[derive(Clone, Copy, Debug)]
 #[repr(C)]
 pub struct LookNumbers {
-    /// The alignment: 1 for left, 2 for right, 3 for centred. Any other number sets none.
+    /// The alignment of the text: 1 for left, 2 for right, 3 for centred. Any other number sets no
+    /// alignment, and that of the column counts.
     pub alignment: u32,
-    /// A bit for each attribute, in the order of `Attribute`. The lowest bit is for the first one.
+    /// The attributes of the text. Each attribute has a bit, in the order of the variants of
+    /// `Attribute`. The lowest bit is for the first variant, and the four highest bits have no
+    /// effect.
     pub attributes: u32,
+    /// The colour of the text. A `kind` of 0 sets no colour.
     pub foreground: ColorNumbers,
+    /// The background colour of the text. A `kind` of 0 sets no colour.
     pub background: ColorNumbers,
 }
 
-// Means U+0000, because 0 means no character. It is the number after the greatest code point.
+// The number that means U+0000, because 0 means no character. It follows the greatest code point.
 const NUL: u32 = 0x11_0000;
 
 static ATTRIBUTES: [Attribute; 28] = [
@@ -68,7 +79,8 @@ static ATTRIBUTES: [Attribute; 28] = [
     Attribute::NotOverLined,
 ];
 
-/// The character with this code point. `None` for 0, and for a number that is no character's.
+/// The character with this code point, or U+0000 for `NUL`. `None` for 0, and for any other number
+/// that isn't the code point of a character.
 pub(crate) fn char_of(number: u32) -> Option<char>
     ensures { result ≡ char_of number }
 {
@@ -79,7 +91,7 @@ pub(crate) fn char_of(number: u32) -> Option<char>
     }
 }
 
-/// The alignment of texts; `None` if the number sets none.
+/// The alignment of texts that a number means; `None` if the number sets no alignment.
 pub(crate) fn alignment_of(number: u32) -> Option<CellAlignment>
     ensures { result ≡ slice_index_or alignments number None }
 {
@@ -91,7 +103,7 @@ pub(crate) fn alignment_of(number: u32) -> Option<CellAlignment>
     }
 }
 
-/// The colour of these numbers; `None` if they set no colour.
+/// The colour of these numbers; `None` if the numbers set no colour.
 pub(crate) fn color_of(color: ColorNumbers) -> Option<Color>
     ensures { result ≡ color_of color }
 {
@@ -125,7 +137,8 @@ fn attributes_of(alloc: Global, bits: u32) -> Result<Vec<Attribute>, AllocError>
     Ok(attributes)
 }
 
-/// The attributes whose bits are set; `None` for several attributes.
+/// The attribute whose bit is set, in a list. The list is empty if no attribute's bit is set.
+/// `None` only if several bits are set.
 pub(crate) fn lent_attributes(bits: u32) -> Option<&'static [Attribute]>
     ensures { IfSome result (λ attributes.
         attributes.now ≡ attributes_by all_attributes bits) }
@@ -133,7 +146,8 @@ pub(crate) fn lent_attributes(bits: u32) -> Option<&'static [Attribute]>
     lent_among(&ATTRIBUTES, bits)
 }
 
-// The attributes of `all` whose bits are set; `None` for several attributes.
+// The attribute of `all` whose bit is set, in a list, which is empty if there is no such attribute.
+// `None` only if several bits are set.
 fn lent_among(all: &'static [Attribute], bits: u32) -> Option<&'static [Attribute]>
     ensures { IfSome result (λ own. own.now ≡ attributes_by all.now bits) }
 {
@@ -163,7 +177,7 @@ impl LookNumbers {
     }
 }
 
-/// The settings of a text with this look.
+/// The settings of a text with this look. The only error is that memory ran out.
 pub(crate) fn look_settings(alloc: Global, look: &LookNumbers) -> Result<CellSettings, AllocError>
     ensures { IfOk result (λ settings. settings ≡ look_settings look.now) }
 {

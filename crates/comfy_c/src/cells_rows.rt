@@ -18,29 +18,33 @@ use comfy_parts::{Cell, Cells, IntoRow, Row, TableError};
 use comfy_table::for_records::{LinesCell, RowCell, TextCell, TextStyle};
 use std::alloc::{AllocError, Global};
 
-/// The length and the settings of a cell. Its text is in the block of all texts.
+/// The length of a cell's text, and the settings of the cell. The text itself is in the parameter
+/// `texts` of `comfy_cells_draw`.
 #[derive(Clone, Copy, Debug)]
 #[repr(C)]
 pub struct CellNumbers {
-    /// The length of its text in bytes.
+    /// The length of the cell's text in bytes.
     pub length: usize,
-    /// The character at which its text may break; 0 for none.
+    /// The code point of the character at which the text may break; 0 for the delimiter of the
+    /// column.
     pub delimiter: u32,
+    /// The alignment, the colours and the attributes of the text.
     pub look: LookNumbers,
 }
 
-/// A row.
+/// The settings of a row of a table of cells.
 #[derive(Clone, Copy, Debug)]
 #[repr(C)]
 pub struct RowNumbers {
-    /// The number of its cells.
+    /// The number of cells in the row.
     pub cells: usize,
-    /// The most lines that it has. 0 and the greatest number set no limit.
+    /// The greatest number of lines of the row; longer texts are cut. 0 and `usize::MAX` set no
+    /// limit.
     pub max_height: usize,
 }
 
-/// The rows that these numbers describe, with cells and texts in their order. Refuses what
-/// `texts_of` refuses.
+/// The rows that `rows`, `cells` and `texts` describe. Cells and texts are in the order of the
+/// rows. The errors are those of `texts_of`.
 pub(crate) fn rows_of(
     alloc: Global,
     rows: &[RowNumbers],
@@ -58,7 +62,7 @@ pub(crate) fn rows_of(
     Ok(rows_by(alloc, rows, cells, texts.as_slice())?)
 }
 
-/// The text of each cell, from the block of all texts. Refuses what `texts_of` refuses.
+/// The text of each cell, from the block of all texts. The errors are those of `texts_of`.
 pub(crate) fn cell_texts<'a>(
     alloc: Global,
     rows: &[RowNumbers],
@@ -117,7 +121,8 @@ fn rows_by(
     Ok(made)
 }
 
-/// The row of cells that have these texts.
+/// The row with these settings, whose cells have `texts` and the settings in `cells`. The only
+/// error is that memory ran out.
 pub(crate) fn row_of(
     alloc: Global,
     row: &RowNumbers,
@@ -134,7 +139,8 @@ pub(crate) fn row_of(
     Ok(made)
 }
 
-/// The most lines of a row. `None` for 0 and for the greatest number, which set no limit.
+/// The greatest number of lines of a row, which `number` sets. `None` for 0 and for `usize::MAX`,
+/// which set no limit.
 pub(crate) fn height_of(number: usize) -> Option<usize>
     ensures { result ≡ height_of number }
 {
@@ -167,7 +173,7 @@ fn cell_of(alloc: Global, numbers: &CellNumbers, text: &str) -> Result<Cell, Tab
     look_settings(alloc, &numbers.look)?.dressed(cell)
 }
 
-// A cell with an alignment, if there is one.
+// The cell with this alignment; unchanged if there is none.
 fn aligned(cell: Cell, alignment: Option<CellAlignment>) -> Cell
     requires { cell.alignment ≡ None }
     ensures { result ≡ record cell { alignment = alignment } }
@@ -178,8 +184,9 @@ fn aligned(cell: Cell, alignment: Option<CellAlignment>) -> Cell
     }
 }
 
-/// The cells that have these texts. A text is lent, unless it has ESC, or its cell has a delimiter
-/// or a look that isn't known.
+/// The cells that have these texts. A cell borrows its text from the caller, except in three cases.
+/// It has a copy of the text if the text has ESC, if the cell has a delimiter, or if it has colours
+/// or attributes that aren't in `looks`.
 pub(crate) fn lent_cells<'a>(
     alloc: Global,
     cells: &[CellNumbers],
@@ -196,7 +203,8 @@ pub(crate) fn lent_cells<'a>(
     Ok(made)
 }
 
-// The cell of a text. The text is lent if it can be.
+// The cell of a text. The cell borrows the text if `lent_cell` can make it, and otherwise copies
+// it.
 #[inline(always)]
 fn row_cell<'a>(
     alloc: Global,
@@ -224,8 +232,8 @@ fn made_cell<'a>(
     Ok(RowCell::Made(Box::new(alloc, cell_of(alloc, numbers, text)?)?))
 }
 
-// The cell of a text that is lent. `None` if the text has ESC, or if its cell has a delimiter or a
-// look that isn't known.
+// The cell that borrows a text from the caller. `None` if the text has ESC, or if the cell has a
+// delimiter, or colours or attributes that aren't in `looks`.
 #[inline(always)]
 fn lent_cell<'a>(
     numbers: &CellNumbers,
@@ -244,8 +252,8 @@ fn lent_cell<'a>(
     text_cell(numbers, text, Some(style))
 }
 
-// The cell of a lent text in this style; `None` if the text has ESC. Printable ASCII is tried
-// first, because most texts are.
+// The cell that borrows a text and has this style; `None` if the text has ESC. Printable ASCII is
+// tried first, because most texts are.
 #[inline(always)]
 fn text_cell<'a>(
     numbers: &CellNumbers,

@@ -10,32 +10,39 @@ use comfy_parts::style::ContentArrangement;
 #[derive(Clone, Copy, Debug)]
 #[repr(C)]
 pub struct CellsSettings {
-    /// The output: 0 for the lines, each with a line feed after it; 1 for the lines without the
-    /// white space at their ends, with line feeds between them; 2 for the greatest width of each
-    /// column's contents in terminal columns, in decimal with a line feed after it.
+    /// The form of the output. With 0 the output is the lines of the table, each with a line feed
+    /// after it. With 1 it is the lines without the white space at their ends, and with line feeds
+    /// only between lines. With 2 it is a line for each column: the width of the column's widest
+    /// text in terminal columns, in decimal.
     pub form: u32,
-    /// The frame, as in `RowsSettings`.
+    /// The frame: a preset by its position for `presets::by_position`, 13 for `UTF8_FULL` with
+    /// round corners, or `u32::MAX` for a frame of the caller's own, in the field `frame`.
     pub style: u32,
-    /// 0 for `Disabled`, 1 for `Dynamic`, 2 for `DynamicFullWidth`.
+    /// The rule by which columns get their widths, a `ContentArrangement`: 0 for `Disabled`, 1 for
+    /// `Dynamic`, 2 for `DynamicFullWidth`.
     pub arrangement: u32,
-    /// The greatest width of the table, in terminal columns. A number above 65535 sets none.
+    /// The width of the table in terminal columns, which `Dynamic` keeps to and `DynamicFullWidth`
+    /// fills. `Disabled` uses the width only for constraints in percent. A number above 65535 sets
+    /// no width.
     pub width: u32,
-    /// The character at which texts may break; 0 for none.
+    /// The code point of the character at which texts may break; 0 for a space.
     pub delimiter: u32,
     /// A flag: the first row is the header.
     pub has_header: u32,
-    /// A flag: colours and attributes are written.
+    /// A flag: colours and attributes are written. If the flag isn't set, they have no effect.
     pub enforce_styling: u32,
     /// A flag: colours and attributes apply to the texts alone, without the paddings.
     pub style_text_only: u32,
-    /// A flag: SGR sequences in texts stay, and count no terminal columns.
+    /// A flag: SGR sequences in texts take no terminal columns. If the flag isn't set, the
+    /// characters of the sequences take terminal columns as any others do.
     pub custom_styling: u32,
-    /// The lines of the caller's own style. No other style reads them.
+    /// The caller's own frame, which is drawn if `style` is `u32::MAX`. Otherwise this field has no
+    /// effect.
     pub frame: FrameNumbers,
 }
 
 impl CellsSettings {
-    /// The arrangement of widths; `None` if the number has no meaning.
+    /// The arrangement of widths; `None` if the number `arrangement` has no meaning.
     pub(crate) fn content_arrangement(&self) -> Option<ContentArrangement>
         ensures { result ≡ slice_get arrangements self.now.arrangement }
     {

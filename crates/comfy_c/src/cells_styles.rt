@@ -1,4 +1,4 @@
-//! Styles of cells whose texts are lent.
+//! Styles of cells that borrow their texts from the caller.
 
 ghost use Rattle.std.specs.Prelude.{◌≡◌, ◌≤◌, IfOk, IfSome, length, true};
 ghost use Rattle.comfy_table.specs.Styling.{all_attributes};
@@ -11,10 +11,10 @@ use comfy_table::for_records::TextStyle;
 use std::alloc::{AllocError, Global};
 use std::marker::Model;
 
-// The most looks that are kept.
+// The greatest number of looks that `known_looks` returns.
 const MOST: usize = 8;
 
-/// The colours and attributes of some cells, as numbers and as a style.
+/// The colours and attributes of some cells, both as the caller's numbers and as a style.
 #[derive(Drop)]
 pub(crate) struct KnownLook {
     look: LookNumbers,
@@ -47,7 +47,8 @@ impl KnownLook {
         Some(KnownLook { look, style })
     }
 
-    // The style of this known look, if `look` has the same colours and attributes.
+    // The style of this known look, if `look` has the same colours and attributes. Otherwise
+    // `None`.
     #[inline(always)]
     fn style_for<'a>(&'a self, look: &LookNumbers) -> Option<&'a TextStyle<'a>>
         ensures { IfSome result (λ style. styling style.now ≡ look_alone look.now) }
@@ -64,7 +65,9 @@ impl KnownLook {
     }
 }
 
-/// The looks of cells that have colours or an attribute, each once, and at most 8.
+/// The different looks (alignment, colours and attributes) of these cells, at most 8 of them. Looks
+/// without colours and attributes are left out, and so are looks with several attributes. The only
+/// error is that memory ran out.
 pub(crate) fn known_looks(
     alloc: Global,
     cells: &[CellNumbers],
@@ -82,7 +85,8 @@ pub(crate) fn known_looks(
     Ok(looks)
 }
 
-// A look to keep, if it isn't known yet and doesn't have several attributes.
+// The look with its style, if `looks` doesn't have it yet. `None` if `looks` has it, or if it has
+// several attributes.
 fn further_look(looks: &[KnownLook], look: LookNumbers) -> Option<KnownLook>
     ensures { IfSome result (λ known. known ≡ look) }
 {
@@ -92,7 +96,7 @@ fn further_look(looks: &[KnownLook], look: LookNumbers) -> Option<KnownLook>
     KnownLook::new(look)
 }
 
-/// The style of a look, if it is known.
+/// The style of a look, or `None` if `looks` doesn't have the look.
 #[inline(always)]
 pub(crate) fn style_among<'a>(
     looks: &'a [KnownLook],

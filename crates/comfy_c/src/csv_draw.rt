@@ -1,20 +1,21 @@
 //! Draws tables of CSV by the arguments of `csvtable`.
 
 ghost use Rattle.std.specs.Prelude.{◌≡◌, ◌≢◌, ◌≤◌, ◌<◌, IfErr, IfOk, IsUtf8, List, ℕ, drop, length, string_bytes, take};
-ghost use Rattle.comfy_c.specs.Calls.{IsHanded, IsCsvDrawing, IsCsvRefusal, IsInputMessage, IsArgumentsMessage};
+ghost use Rattle.comfy_c.specs.Calls.{IsReturned, IsCsvDrawing, IsCsvRefusal, IsInputMessage, IsArgumentsMessage};
 
 use crate::arguments::command_line;
 use crate::buffer::{DRAWN, INPUT_REFUSED, OUT_OF_MEMORY, ROOM_TOO_SMALL, SETTINGS_REFUSED, put};
 use csv_command::{ARGUMENT_NOT_UTF8, Refusal, render_csv};
 use std::alloc::Global;
 
-/// Draws the table of CSV into the caller's buffer, as `csvtable` does for these arguments and a
-/// file of these bytes if standard output is no terminal, and neither `COLUMNS` nor `NO_COLOR` is
-/// set.
+/// Draws the table of CSV into the caller's buffer. The drawing is the output of `csvtable` for
+/// these arguments, the option `--count`, and an input with these bytes. Standard output counts as
+/// no terminal, and the environment variables `COLUMNS` and `NO_COLOR` as not set.
 ///
-/// A zero byte ends each argument; that of the last one may be missing. No file is opened: the name
-/// of a file among the arguments only appears in messages, and `.tsv` at its end says that TABs
-/// separate fields.
+/// A zero byte ends each argument. The zero byte of the last argument may be missing. No file is
+/// opened: the name of a file among the arguments only appears in messages. TABs separate the
+/// fields if the name ends with `.tsv` or `.tab`, no argument sets a delimiter, and no first line
+/// such as `sep=;` names another one.
 ///
 /// | Returned | Meaning | At the front of the buffer |
 /// |---|---|---|
@@ -22,13 +23,13 @@ use std::alloc::Global;
 /// | 1 | the buffer is too small | nothing |
 /// | 2 | the input can't be drawn with these arguments | the message of `csvtable` |
 /// | 3 | memory ran out | nothing |
-/// | 4 | the arguments choose no drawing | the text of `csvtable`, such as help and version |
+/// | 4 | the arguments request no drawing | the text of `csvtable`, such as help and version |
 ///
-/// `needed` is set to the length of this text in bytes. After 1 it is the length of the drawing,
-/// and after 3 it is unchanged.
+/// With 0 and 1, `needed` is set to the length of the drawing in bytes. With 2 and 4 it is set to
+/// the length of the message or text in bytes, and with 3 it is unchanged.
 ///
-/// After 1 and 3 the buffer is unchanged, and so it is after 2 and 4 if it is too small for the
-/// text. Otherwise it is unchanged after the bytes that were written.
+/// With 1 and 3 the buffer is unchanged. With 2 and 4 it is unchanged if it is too small for the
+/// whole message or text. In all other cases only its first `needed` bytes are changed.
 ///
 /// ```
 /// let status = comfy_csv_draw(rt.alloc(), b"a,b\n", b"-w\x0040", &mut output, &mut needed);
@@ -48,10 +49,10 @@ pub extern "C" fn comfy_csv_draw(
         → (length output.old < needed.new) × (drawing : List ℕ) × (needed.new ≡ length drawing)
         × IsCsvDrawing arguments.now input.now drawing }
     ensures input_refused { result ≡ 2
-        → IsHanded (IsInputMessage arguments.now input.now) output.old output.new needed.new }
+        → IsReturned (IsInputMessage arguments.now input.now) output.old output.new needed.new }
     ensures out_of_memory { result ≡ 3 → IsUtf8 arguments.now }
     ensures arguments_refused { result ≡ 4
-        → IsHanded (IsArgumentsMessage arguments.now) output.old output.new needed.new }
+        → IsReturned (IsArgumentsMessage arguments.now) output.old output.new needed.new }
     ensures no_other { result ≤ 4 }
     ensures rest { drop needed.new output.new ≡ drop needed.new output.old }
     ensures untouched { result ≢ 0 → result ≢ 2 → result ≢ 4 → output.new ≡ output.old }
@@ -81,7 +82,7 @@ pub extern "C" fn comfy_csv_draw(
     }
 }
 
-// The drawing for the arguments in a text, or the reason why there is none.
+// The drawing for the arguments that `text` holds, or the reason why there is none.
 fn drawing_for(alloc: Global, text: &str, input: &[u8]) -> Result<String, Refusal>
     ensures drawn { IfOk result (λ drawing.
         IsCsvDrawing text.now input.now (string_bytes drawing)) }

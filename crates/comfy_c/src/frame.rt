@@ -7,34 +7,53 @@ use crate::cells_numbers::char_of;
 use comfy_parts::style::presets::{UTF8_FULL, by_position};
 use comfy_parts::style::{ContentLineStyle, LineStyle, TableStyle};
 
-/// The characters of a horizontal line of the frame, by their code points; 0 for none.
+/// The characters of a frame line, as code points. 0 means that there is no character. A missing
+/// `fill` is drawn as spaces. Another missing character is drawn as a space if another line of the
+/// frame has a character at its place. If no line has one there, the place takes no terminal
+/// column.
 #[derive(Clone, Copy, Debug)]
 #[repr(C)]
 pub struct LineNumbers {
+    /// The code point of the character at the left end of the line; 0 for none.
     pub left: u32,
+    /// The code point of the character that fills the widths of the columns; 0 for none.
     pub fill: u32,
+    /// The code point of the character between two columns; 0 for none.
     pub junction: u32,
+    /// The code point of the character at the right end of the line; 0 for none.
     pub right: u32,
 }
 
-/// The characters of a line that holds contents, by their code points; 0 for none.
+/// The borders in a line of texts, as code points. 0 means that there is no character. A missing
+/// character is drawn as a space if another line of the frame has a character at its place. If no
+/// line has one there, the place takes no terminal column.
 #[derive(Clone, Copy, Debug)]
 #[repr(C)]
 pub struct ContentLineNumbers {
+    /// The code point of the left border; 0 for none.
     pub left: u32,
+    /// The code point of the border between two columns; 0 for none.
     pub junction: u32,
+    /// The code point of the right border; 0 for none.
     pub right: u32,
 }
 
-/// A frame of the caller's own.
+/// A frame of the caller's own: four frame lines, and the borders in lines of texts. A frame line
+/// whose numbers are all 0 isn't drawn.
 #[derive(Clone, Copy, Debug)]
 #[repr(C)]
 pub struct FrameNumbers {
+    /// The frame line above all rows.
     pub top_border: LineNumbers,
+    /// The borders in the header's lines of texts.
     pub header_lines: ContentLineNumbers,
+    /// The frame line below the header.
     pub header_separator: LineNumbers,
+    /// The borders in the lines of texts of the rows below the header.
     pub content_lines: ContentLineNumbers,
+    /// The frame line between two rows below the header.
     pub row_separator: LineNumbers,
+    /// The frame line below all rows.
     pub bottom_border: LineNumbers,
 }
 
@@ -43,7 +62,7 @@ const ROUNDED: u32 = 13;
 const OWN_STYLE: u32 = u32::MAX;
 
 impl FrameNumbers {
-    /// The style of these lines.
+    /// The `TableStyle` with the characters of this frame.
     pub(crate) fn style(&self) -> TableStyle
         ensures { result ≡ own_style self.now }
     {
@@ -58,9 +77,8 @@ impl FrameNumbers {
     }
 }
 
-/// The style for a number: a preset by its position, as `presets::by_position` counts them,
-/// `UTF8_FULL` with round corners for 13, or the style of `frame` for the greatest number. `None`
-/// for any other number.
+/// The style that `number` means: a preset by its position for `presets::by_position`, `UTF8_FULL`
+/// with round corners for 13, or `frame` for `u32::MAX`. `None` for any other number.
 pub(crate) fn style_for(number: u32, frame: &FrameNumbers) -> Option<TableStyle>
     ensures { result ≡ style_for number frame.now }
 {

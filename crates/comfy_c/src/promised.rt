@@ -15,13 +15,16 @@ use crate::rows_settings::RowsSettings;
 use promises::laws::drawings_keep_the_promises;
 use std::alloc::Global;
 
-/// If 0 is returned and `form` isn't 2, the bytes in `output` are UTF-8. They are the lines of the
-/// table that the caller's numbers and texts describe: each ended by a line feed if `form` is 0,
-/// and trimmed, with line feeds between them, if it is 1.
+/// Draws a table of cells, as `comfy_cells_draw` does. If 0 is returned and `form` isn't 2, the
+/// first `needed` bytes of `output` are UTF-8. They are the lines of the table that the caller's
+/// numbers and texts describe. If `form` is 0, each line has a line feed after it. If `form` is 1,
+/// the lines have no white space at their ends, and line feeds are only between lines.
 ///
-/// They keep each promise on a table's lines. For example, under `Dynamic`, if no column has a
-/// constraint except `Hidden`, a frame line has at most as many characters as the width, or as
-/// borders, paddings and one for each column.
+/// The lines keep each promise of the crate `promises` on the lines of a table. If `form` is 1,
+/// this holds for the lines before the white space at their ends is removed. For example, take a
+/// table with `Dynamic`, a width, and no constraint except `Hidden`. Its frame lines have at most
+/// as many characters as the greater of two numbers. One is the width. The other is the number of
+/// characters of borders and paddings, plus one for each column that isn't hidden.
 pub fn drawn_cells(
     alloc: Global,
     texts: &[u8],
@@ -43,35 +46,44 @@ pub fn drawn_cells(
     )
 }
 
-/// The bytes that a caller gets with 0 are UTF-8: the table of rows that its settings and columns
-/// describe, as `csvtable` draws records of these texts. They send a terminal nothing but text: no
-/// character that they show is a control character except a line feed, and none turns the direction
-/// of text. Their only sequences begin bold and end it, unless sequences of texts are kept.
+/// Draws a table of rows, as `comfy_rows_draw` does. If 0 is returned, the first `needed` bytes of
+/// `output` are UTF-8. They are the table that the settings, looks, heights and columns describe,
+/// as `csvtable` draws records of these texts.
 ///
-/// The promises on what is shown are for a preset, or for a frame of the caller's own without
-/// control characters and characters that turn the direction of text. The promises on columns and
-/// widths are for a frame whose characters each take one terminal column, as in all presets.
+/// The visible text has no control character except line feeds, and no character that turns the
+/// direction of text. The only SGR sequences begin bold and end it, unless `has_sequences` keeps
+/// those of the texts.
 ///
-/// For a table that isn't for Markdown, and in which no sequences are kept:
+/// The promises on the visible text and in the list below are for a preset, or for a frame of the
+/// caller's own. Such a frame must have no control characters, and no characters that turn the
+/// direction of text. The promises on terminal columns also require that each character of the
+/// frame takes one terminal column, as in all presets.
 ///
-/// - All drawn texts are shown, as they are cleaned, each in its row and column, unless a height
-///   cuts rows. If not all rows are drawn, a line counts them.
-/// - All lines show the same number of terminal columns, except those that count rows. This holds
-///   if each character takes at most one terminal column, and none is U+FE01. It also holds without
-///   a width and a height, if each text takes at most 65535 terminal columns and has no control
-///   character and none that turns the direction of text. And it holds if each character has room
-///   in its column, as characters of at most two terminal columns have under a width of 1 + 5 n or
-///   more. Here n is 2 if rows are or may be drawn as tables of their own, and otherwise the number
-///   of drawn columns. U+FE01 and U+FE0E are excepted.
-/// - Under a width no such line shows more terminal columns than the width, or than the frame of n
-///   columns takes, if each character takes at most one, or two under such a width. If the width is
-///   filled and has room for the frame, each line shows exactly as many.
+/// For a table that isn't for Markdown, and without the flag `has_sequences`:
 ///
-/// These hold if columns have no settings except a side at the left or right, or are hidden, and
-/// without looks and heights. With any looks, heights and columns, a table that is never expanded
-/// and not for Markdown keeps each promise that is made of a table's lines, as `drawn_cells` says.
-/// The lines are those before the line that counts rows. The table is the one that `csvtable` draws
-/// of such rows, with the settings of columns, rows and cells.
+/// - If no greatest height is set, all drawn texts are shown, each in its row and column. Control
+///   characters of the texts are replaced. If not all rows are drawn, a line counts the rows.
+/// - All lines show the same number of terminal columns, except lines that count rows. This holds
+///   if each character takes at most one terminal column, and none is U+FE01. It also holds if no
+///   width and no greatest height is set, and each text is at most 65535 terminal columns wide. No
+///   text may then have a control character, or a character that turns the direction of text. Last,
+///   it holds if each character has room in its column. Characters of at most two terminal columns,
+///   other than U+FE01 and U+FE0E, have room if the width is at least 1 + 5 n. Here n is 2 if rows
+///   are always drawn as tables of their own, or if they may be and a row is drawn. Otherwise n is
+///   the number of drawn columns, including that of row numbers.
+/// - If a width is set, no such line shows more terminal columns than the width, or than 1 + 4 n if
+///   that is greater. This holds if each character takes at most one terminal column, and none is
+///   U+FE01. It also holds if each character takes at most two, none is U+FE01 or U+FE0E, and the
+///   width is at least 1 + 5 n. If the width is filled and has room for the frame, each such line
+///   shows exactly as many terminal columns as the width.
+///
+/// The promises on the visible text and in the list hold if there are no looks and no heights.
+/// Columns may then be hidden or have a left or right side, but must have no other settings. With
+/// any looks, heights and columns, another promise holds for rows that are never expanded, in a
+/// table that isn't for Markdown. If there is a row, the lines of the table keep each promise on
+/// the lines of a table, as those of `drawn_cells` do. The line below the table that counts rows
+/// isn't one of these lines. The table is the one that `csvtable` draws of such rows, with the
+/// settings of columns, rows and cells.
 pub fn drawn_rows(
     alloc: Global,
     texts: &[u8],

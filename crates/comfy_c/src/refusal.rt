@@ -8,11 +8,14 @@ use std::alloc::{AllocError, AllocFailed};
 
 /// A reason why there is no drawing.
 pub(crate) enum DrawRefusal {
-    /// Lengths, counts, looks or heights don't add up.
+    /// The lengths don't add up to the length of all texts, or the counts don't add up to the
+    /// number of texts. This is also the reason if there are looks, but not one for each text, or
+    /// heights, but not one for each row.
     Lengths,
     /// A text isn't UTF-8.
     NotUtf8,
-    /// Settings or columns are refused: a number has no meaning, or nothing can be drawn with them.
+    /// A number in the settings or columns has no meaning, or settings can't be combined, or the
+    /// columns don't fit the rows.
     Settings,
     /// Memory ran out.
     OutOfMemory,

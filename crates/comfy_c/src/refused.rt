@@ -1,4 +1,4 @@
-//! Finds the setting that is refused.
+//! Finds the setting that a drawing function refuses.
 
 ghost use Rattle.std.specs.Prelude.{◌≡◌, ◌≢◌, List, None};
 ghost use Rattle.comfy_parts.specs.Text.{Text};
@@ -13,21 +13,22 @@ use crate::frame::style_for;
 use crate::rows_columns::{RowsColumn, have_sides};
 use crate::rows_settings::{RowsSettings, expansion_at, separators_at};
 
-/// Returns the setting of a table of rows that `comfy_rows_draw` refuses, whatever the texts are.
+/// Returns a number for the setting that `comfy_rows_draw` refuses with any texts, or 0 if there is
+/// no such setting.
 ///
 /// | Returned | Meaning |
 /// |---|---|
-/// | 0 | none; `comfy_rows_draw` may still refuse a column that no row has, or no columns |
+/// | 0 | none; `comfy_rows_draw` may still refuse columns that don't fit the rows |
 /// | 1 | `style` has no meaning |
 /// | 2 | `row_lines` has no meaning |
 /// | 3 | `expansion` has no meaning |
 /// | 4 | a column's `side` has no meaning |
-/// | 5 | there are looks, heights or columns that only a table of rows has |
+/// | 5 | looks, heights or settings of columns can't be combined with Markdown or expanded rows |
 ///
-/// 5 is returned if the table is for Markdown, or if rows are or may be expanded, and there are
-/// looks, heights, or columns that are centred or have paddings or widths of their own. If several
-/// settings are refused, the first of them in this list is returned. Texts, lengths and counts
-/// aren't read.
+/// A table for Markdown can't have looks, heights, centred columns, or columns with a width or with
+/// paddings other than 1. Nor can a table whose rows are expanded, or may be expanded. For such
+/// settings 5 is returned. If several settings are refused, the smallest of the numbers is
+/// returned. Texts, lengths and counts have no influence on the result.
 #[unsafe(no_mangle)]
 pub extern "C" fn comfy_rows_refused(
     looks: &[LookNumbers],
@@ -57,7 +58,8 @@ pub extern "C" fn comfy_rows_refused(
     0
 }
 
-/// Returns the setting of a table of cells that `comfy_cells_draw` refuses.
+/// Returns a number for the setting that `comfy_cells_draw` refuses, or 0 if there is no such
+/// setting.
 ///
 /// | Returned | Meaning |
 /// |---|---|
@@ -66,8 +68,8 @@ pub extern "C" fn comfy_rows_refused(
 /// | 6 | `form` has no meaning |
 /// | 7 | `arrangement` has no meaning |
 ///
-/// If several settings have no meaning, the number for `form` is returned, or else the number for
-/// `style`.
+/// If several settings have no meaning, the number of the first is returned, in the order `form`,
+/// `style`, `arrangement`.
 #[unsafe(no_mangle)]
 pub extern "C" fn comfy_cells_refused(settings: &CellsSettings) -> u32
     ensures which { result ≡ refused_of_cells settings.now }

@@ -19,31 +19,32 @@ const HIDDEN: u32 = 3;
 
 const IN_THE_MIDDLE: u32 = 4;
 
-/// A column of a table of rows. Widths are in terminal columns.
+/// The settings of a column of a table of rows. Widths are in terminal columns.
 #[derive(Clone, Copy, Debug)]
 #[repr(C)]
 pub struct RowsColumn {
-    /// The terminal columns left free at the left of texts.
+    /// The number of terminal columns that stay free at the left of the column's texts.
     pub left_padding: u16,
-    /// The terminal columns left free at the right of texts.
+    /// The number of terminal columns that stay free at the right of the column's texts.
     pub right_padding: u16,
     /// The alignment: 0 for right in a column of numbers and left in any other, 1 for left, 2 for
     /// right, and 4 for centred. 3 leaves the column out.
     pub side: u32,
-    /// The least width of its texts; 0 sets none.
+    /// The least width of the column, without its paddings. 0 sets no least width.
     pub least: u16,
-    /// The greatest width of its texts; 0 sets none.
+    /// The greatest width of the column, without its paddings. 0 sets no greatest width, and a
+    /// width below `least` counts as `least`. Wider texts are wrapped.
     pub greatest: u16,
 }
 
-/// Returns true if each side has a meaning.
+/// Returns true if the number `side` of each column has a meaning.
 pub(crate) fn have_sides(columns: &[RowsColumn]) -> bool
     ensures { result ≡ have_sides columns.now }
 {
     columns.iter().all(|column| column.side <= IN_THE_MIDDLE)
 }
 
-/// Returns true if no column is centred or has paddings or widths of its own.
+/// Returns true if no column is centred, or has a width or paddings other than 1.
 pub(crate) fn are_unset(columns: &[RowsColumn]) -> bool
     ensures { result ≡ are_unset columns.now }
 {
@@ -60,8 +61,8 @@ fn is_unset(column: &RowsColumn) -> bool
         && column.side != IN_THE_MIDDLE
 }
 
-/// The settings of columns. The list is empty if no column is centred or has paddings or widths of
-/// its own.
+/// The settings of each column, as `csv_tables` takes them. The only error is that memory ran out.
+/// The list is empty if no column is centred, or has a width or paddings other than 1.
 pub(crate) fn settings_for(
     alloc: Global,
     columns: &[RowsColumn],
@@ -97,18 +98,19 @@ fn width_unless_zero(width: u16) -> Option<u16>
     (width != 0).then_some(width)
 }
 
-/// The columns of these rows that are drawn. `None` if settings are given for a column that no row
-/// has, or if no column is left. Without rows it is never `None`.
+/// The columns of `rows` that are drawn, with the alignments that `chosen` sets. `None` if `chosen`
+/// has settings for a column that no row has, or if no column is left to draw. The result is never
+/// `None` if there are no rows. The only error is that memory ran out.
 pub(crate) fn columns_of(
     alloc: Global,
-    asked: &[RowsColumn],
+    chosen: &[RowsColumn],
     selection: Selection,
     rows: &Rows<'_>,
 ) -> Result<Option<Columns>, AllocError>
-    ensures { IfOk result (λ columns. columns ≡ columns_for selection asked.now rows.now) }
+    ensures { IfOk result (λ columns. columns ≡ columns_for selection chosen.now rows.now) }
 {
     let count = selection.column_count(rows);
-    let columns = columns_by(alloc, asked, count)?;
+    let columns = columns_by(alloc, chosen, count)?;
     if rows.is_empty() {
         return Ok(Some(columns));
     }
@@ -116,7 +118,7 @@ pub(crate) fn columns_of(
         limit: None,
         ..selection
     };
-    if !are_there(asked, all.column_count(rows)) || columns.is_empty() {
+    if !are_there(chosen, all.column_count(rows)) || columns.is_empty() {
         return Ok(None);
     }
     Ok(Some(columns))

@@ -15,14 +15,15 @@ use csv_tables::{Layout, output_of_styled_records};
 use std::alloc::Global;
 
 /// Draws the table of rows into the caller's buffer, as `csvtable` draws records of these texts.
-/// Lines that count records call them rows: `row 2 of 3`, and `2 of 3 rows` if a limit leaves some
-/// out.
+/// Lines that count rows have the word "row", as in `row 2 of 3` above an expanded row, and in `2
+/// of 3 rows` if `limit` leaves rows out.
 ///
 /// `texts` has the texts of all cells in their order, without anything between them. `lengths` has
-/// the length of each in bytes, and `counts` the number of cells of each row. The first row may be
-/// the header. `looks` has an item for each text, and `heights` the greatest height of each row;
-/// both may be empty. A height of 0, or of the greatest number, sets no limit. The header's height
-/// has no effect. `columns` has an item for each column, or for the first ones.
+/// the length of each text in bytes, and `counts` the number of cells of each row. The first row
+/// may be the header. `looks` has the alignment, the colours and the attributes of each text, and
+/// `heights` the greatest height of each row in lines. Both may be empty. With a height of 0 or
+/// `usize::MAX`, the `max_height` of the settings counts. The header's height has no effect.
+/// `columns` has the settings of the first columns, or of all.
 ///
 /// | Returned | Meaning | `needed` |
 /// |---|---|---|
@@ -33,11 +34,16 @@ use std::alloc::Global;
 /// | 4 | settings or columns are refused | unchanged |
 /// | 5 | lengths, counts, looks or heights don't add up | unchanged |
 ///
-/// Settings and columns are checked first: 4 is returned if a number has no meaning. It is also
-/// returned if the table is for Markdown, or if rows are or may be expanded, and there are looks,
-/// heights, or columns that are centred or have paddings or widths of their own. Then lengths,
-/// counts, looks and heights are checked, and after them the texts. Last, 4 is returned if settings
-/// are given for a column that no row has, or if no column is left.
+/// Settings and columns are checked first. 4 is returned if a number has no meaning, or if settings
+/// can't be combined. A table for Markdown can't have looks, heights, centred columns, or columns
+/// with a width or with paddings other than 1. Nor can a table whose rows are expanded (each row is
+/// a table of its own), or may be expanded. Then lengths, counts, looks and heights are checked,
+/// and after them the texts. Last, 4 is returned if settings are given for a column that no row
+/// has, or if no column is left to draw.
+///
+/// Lengths add up if their sum is the length of `texts`. Counts add up if their sum is the number
+/// of lengths. Looks add up if there are no looks, or one for each text. Heights add up if there
+/// are no heights, or one for each row.
 ///
 /// With 1 to 5 the buffer is unchanged. With 0 it is unchanged after the drawing.
 #[unsafe(no_mangle)]

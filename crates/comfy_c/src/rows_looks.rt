@@ -29,7 +29,9 @@ fn is_none_or(given: usize, count: usize) -> bool
     given == 0 || given == count
 }
 
-/// The settings of a table of rows with these counts of texts.
+/// The settings of the columns, rows and texts of a table of rows, which the numbers in `looks`,
+/// `heights` and `columns` mean. `counts` has the number of texts of each row, and the first row is
+/// the header if `has_header` is true. The only error is that memory ran out.
 pub(crate) fn table_settings(
     alloc: Global,
     has_header: bool,
@@ -107,7 +109,7 @@ fn parted(looks: &[LookNumbers], count: usize) -> (&[LookNumbers], &[LookNumbers
     looks.split_at(count.min(looks.len()))
 }
 
-// The height of the row at a place; 0 after the last height.
+// The height of the row at position `at`; 0 after the last height.
 fn height_at(heights: &[usize], at: usize) -> usize
     ensures { result ≡ slice_index heights.now at }
 {

@@ -13,41 +13,47 @@ use csv_tables::{Expansion, Look, Noun, RowSeparators, Selection};
 #[derive(Clone, Copy, Debug)]
 #[repr(C)]
 pub struct RowsSettings {
-    /// The most lines that a row below the header has. The greatest number sets no limit.
+    /// The greatest number of lines of a row below the header; longer rows are cut. 0 counts as 1,
+    /// and `usize::MAX` sets no limit.
     pub max_height: usize,
-    /// The most rows that are drawn. The greatest number draws all.
+    /// The greatest number of rows below the header that are drawn. `usize::MAX` draws all rows.
     pub limit: usize,
-    /// The frame: the position of a preset, as `presets::by_position` counts them, 13 for
-    /// `UTF8_FULL` with round corners, or the greatest number for the lines of `frame`.
+    /// The frame: a preset by its position for `presets::by_position`, 13 for `UTF8_FULL` with
+    /// round corners, or `u32::MAX` for a frame of the caller's own, in the field `frame`.
     pub style: u32,
-    /// The greatest width of the table, in terminal columns. A number above 65535 sets none.
+    /// The greatest width of the table, in terminal columns. A number above 65535 sets no width.
     pub width: u32,
-    /// A flag: the width is filled.
+    /// A flag: the table is widened to `width`, even if its texts need less. The flag has no effect
+    /// if no width is set.
     pub fills_width: u32,
     /// The rule for the style's lines between rows: 0 draws them always, 1 only if a drawn row has
     /// more than one line, 2 never.
     pub row_lines: u32,
-    /// The rule for drawing each row as a table of its own: 0 for never, 1 for only if the width
-    /// has no room for the table of all rows, 2 for always.
+    /// The rule for drawing each row as a table of its own: 0 never, 1 if the width has no room for
+    /// all columns, 2 always.
     pub expansion: u32,
     /// A flag: the first row is the header.
     pub has_header: u32,
     /// A flag: the header is written in bold.
     pub has_bold_header: u32,
-    /// A flag: a first column has the numbers of the rows.
+    /// A flag: a first column `#` shows the number of each row below the header, counted from 1.
     pub is_numbered: u32,
-    /// A flag: decimal points of a column of numbers are aligned.
+    /// A flag: the decimal points of a column of numbers are put below each other, if the width has
+    /// room for the spaces that this takes.
     pub aligns_decimals: u32,
-    /// A flag: SGR sequences in texts stay, and count no terminal columns.
+    /// A flag: SGR sequences in texts are written as they are, and take no terminal columns. If the
+    /// flag isn't set, the ESC of each sequence is drawn as U+FFFD.
     pub has_sequences: u32,
-    /// A flag: the table is for Markdown, whatever else is set here.
+    /// A flag: the table is for Markdown. Settings that Markdown can't have, such as `style`,
+    /// `width` and `max_height`, then have no effect.
     pub is_markdown: u32,
-    /// The lines of the caller's own style. No other style reads them.
+    /// The caller's own frame, which is drawn if `style` is `u32::MAX`. Otherwise this field has no
+    /// effect.
     pub frame: FrameNumbers,
 }
 
 impl RowsSettings {
-    /// The selection of the rows that are drawn.
+    /// The selection of the rows that are drawn, as `csv_tables` takes it.
     pub(crate) fn selection(&self) -> Selection
         ensures { result ≡ selection_for self.now }
     {
@@ -59,9 +65,9 @@ impl RowsSettings {
         }
     }
 
-    /// Returns true if the side of each column has a meaning, and if such a table can have these
-    /// settings. Only a table of rows can have looks, heights, and columns that are centred or have
-    /// paddings or widths of their own.
+    /// Returns true if the number `side` of each column has a meaning, and if these settings can be
+    /// combined. Looks, heights, centred columns, and columns with a width or with paddings other
+    /// than 1 can't be combined with Markdown, or with rows that are or may be expanded.
     pub(crate) fn can_have(
         &self,
         looks: &[LookNumbers],
@@ -80,7 +86,8 @@ impl RowsSettings {
         self.expansion == 0 && self.is_markdown == 0
     }
 
-    /// The look of the table; `None` if a number has no meaning.
+    /// The look of the table: its frame, its width, and the way in which rows are drawn. `None` if
+    /// `style`, `row_lines` or `expansion` has no meaning.
     pub(crate) fn look(&self) -> Option<Look>
         ensures { result ≡ look_for self.now }
     {
@@ -99,15 +106,15 @@ impl RowsSettings {
     }
 }
 
-// Returns true if there are no looks and no heights, and no column is centred or has paddings or
-// widths of its own.
+// Returns true if there are no looks and no heights, and no column is centred or has a width or
+// paddings other than 1.
 fn has_sides_alone(looks: &[LookNumbers], heights: &[usize], columns: &[RowsColumn]) -> bool
     ensures { result ≡ has_sides_alone looks.now heights.now columns.now }
 {
     looks.is_empty() && heights.is_empty() && are_unset(columns)
 }
 
-/// The rule for lines between rows; `None` if the number has no meaning.
+/// The rule for lines between rows that a number means; `None` if the number has no meaning.
 pub(crate) fn separators_at(number: u32) -> Option<RowSeparators>
     ensures { result ≡ slice_get separators number }
 {
@@ -119,7 +126,7 @@ pub(crate) fn separators_at(number: u32) -> Option<RowSeparators>
     }
 }
 
-/// The rule for expanding rows; `None` if the number has no meaning.
+/// The rule for expanding rows that a number means; `None` if the number has no meaning.
 pub(crate) fn expansion_at(number: u32) -> Option<Expansion>
     ensures { result ≡ slice_get expansions number }
 {
@@ -131,7 +138,7 @@ pub(crate) fn expansion_at(number: u32) -> Option<Expansion>
     }
 }
 
-/// A limit; `None` for the greatest number.
+/// The limit that a number means; `None` for `usize::MAX`, which sets no limit.
 pub(crate) fn limit_of(number: usize) -> Option<usize>
     ensures { result ≡ limit_of number }
 {

@@ -9,8 +9,8 @@ use csv_records::Records;
 use simdutf8::basic::from_utf8;
 use std::alloc::Global;
 
-/// The records of texts with these lengths. `counts` has the number of fields of each record.
-/// Refuses what `texts_of` refuses.
+/// Splits `texts` into texts of these lengths in bytes, and returns records with these texts as
+/// fields. `counts` has the number of fields of each record. The errors are those of `texts_of`.
 pub(crate) fn records_of(
     alloc: Global,
     texts: &[u8],
@@ -25,12 +25,13 @@ pub(crate) fn records_of(
 {
     let texts = texts_of(alloc, texts, lengths, counts)?;
     let records = Records::from_fields(alloc, texts.as_slice(), counts)?;
-    // There are records, since the counts add up.
+    // `from_fields` returns records, because the counts add up to the number of texts.
     Ok(records.unwrap())
 }
 
-/// The texts of these lengths, in rows of these counts of texts. Refuses lengths or counts that
-/// don't add up, and after that texts that aren't UTF-8. Memory may run out too.
+/// Splits `texts` into texts of these lengths in bytes. Returns `Lengths` if the lengths don't add
+/// up to the length of `texts`, or the counts don't add up to the number of lengths. Otherwise
+/// returns `NotUtf8` if a text isn't UTF-8. The only other error is `OutOfMemory`.
 pub(crate) fn texts_of<'a>(
     alloc: Global,
     texts: &'a [u8],
@@ -51,18 +52,19 @@ pub(crate) fn texts_of<'a>(
         return Err(DrawRefusal::NotUtf8);
     };
     let mut found = Vec::with_capacity(alloc, lengths.len())?;
-    let mut behind = whole;
+    let mut after = whole;
     for length in lengths {
-        let Some((text, rest)) = behind.split_at_checked(*length) else {
+        let Some((text, rest)) = after.split_at_checked(*length) else {
             return Err(DrawRefusal::NotUtf8);
         };
         found.push(text)?;
-        behind = rest;
+        after = rest;
     }
     Ok(found)
 }
 
-// Returns true if the lengths add up to all bytes, and the counts to all texts.
+// Returns true if the lengths add up to the number of bytes, and the counts to the number of
+// lengths.
 fn add_up(texts: &[u8], lengths: &[usize], counts: &[usize]) -> bool
     ensures { IsTrue result ↔ AddUp texts.now lengths.now counts.now }
 {

@@ -1,6 +1,7 @@
 /*
- * Calls of comfy_csv_draw and comfy_rows_draw with bad and extreme arguments, each with the result that comfy_table.h says. It
- * prints what is wrong, and ends with 1 where anything is. The buffers are as long as the calls are told, so that valgrind sees a byte too many.
+ * Calls comfy_csv_draw and comfy_rows_draw with bad and extreme arguments, and compares each result with the one that
+ * comfy_table.h gives. Prints each fault, and ends with status 1 if there is one. Each buffer is exactly as long as the length that
+ * is passed for it, so that valgrind finds a read or a write after its end.
  */
 #include "comfy_table.h"
 
@@ -54,10 +55,10 @@ struct bytes {
     size_t length;
 };
 
-/* Those of a string of C, without the zero byte at its end. */
+/* The bytes of a string of C, without the zero byte at its end. */
 #define TEXT(text) ((struct bytes){text, sizeof(text) - 1})
 
-/* A copy that is as long as it says. */
+/* Returns a copy of some bytes, in memory of exactly their length. */
 static uint8_t *copied(struct bytes bytes) {
     uint8_t *copy = malloc(bytes.length);
     if (bytes.length && !copy) exit(2);
@@ -65,7 +66,7 @@ static uint8_t *copied(struct bytes bytes) {
     return copy;
 }
 
-/* A call on copies of what it reads, with a buffer of its own. */
+/* The result of a call. The call read copies of its arguments, and wrote to a buffer of its own. */
 struct call {
     uint32_t status;
     size_t needed;
@@ -89,7 +90,7 @@ static struct call made_csv(struct bytes input, struct bytes arguments, size_t r
     return call;
 }
 
-/* Rows as a caller passes them, of at most so many texts and rows. */
+/* The arguments of comfy_rows_draw, with room for a fixed number of texts and rows. */
 struct rows {
     struct bytes texts;
     size_t lengths[8], length_count, counts[4], count_count;
@@ -100,10 +101,10 @@ struct rows {
 };
 
 
-/* A header and a row: name and days, oats and 3. */
+/* A header with the texts name and days, and a row with oats and 3. */
 static const struct rows ROWS = {{"namedaysoats3", 13}, {4, 4, 4, 1}, 4, {2, 2}, 2, {COMFY_PLAIN_COLUMN}, 0, {{0}}, 0, {0}, 0};
 
-/* Gives rows columns that have these sides, and nothing else of their own. */
+/* Sets the sides of columns. Their other settings are those of COMFY_PLAIN_COLUMN. */
 static void set_sides(struct rows *rows, struct bytes sides) {
     rows->column_count = sides.length;
     for (size_t i = 0; i < sides.length; i++) rows->columns[i] = (struct comfy_rows_column){1, 1, (uint8_t)sides.at[i], 0, 0};
@@ -133,20 +134,20 @@ static struct call made_rows(const struct rows *rows, struct comfy_rows_settings
     return call;
 }
 
-/* Whether the bytes from one position on are as they were. */
+/* Returns true if the bytes of a buffer from a position on are unchanged. */
 static int is_untouched(const struct call *call, size_t from) {
     for (size_t i = from; i < call->room; i++)
         if (call->output[i] != UNTOUCHED) return 0;
     return 1;
 }
 
-/* Whether a text was put at the front of a call's buffer, and nothing behind it. */
+/* Returns true if a text is at the front of a call's buffer, and nothing was written after it. */
 static int is_put(const struct call *call, struct bytes text) {
     return call->needed == text.length && text.length <= call->room && !memcmp(call->output, text.at, text.length)
         && is_untouched(call, text.length);
 }
 
-/* A text that csvtable draws or says: into its room and into more, and into none that is smaller. */
+/* Expects a drawing or a message of comfy_csv_draw: in buffers of its length and of more bytes, and not in a smaller one. */
 static void expect_csv(const char *what, struct bytes input, struct bytes arguments, uint32_t status, struct bytes text) {
     uint32_t without = status == COMFY_DRAWN ? COMFY_ROOM_TOO_SMALL : status;
     struct call full = made_csv(input, arguments, text.length), more = made_csv(input, arguments, text.length + 20);
@@ -161,8 +162,8 @@ static void expect_csv(const char *what, struct bytes input, struct bytes argume
     free(none.output);
 }
 
-/* A text on arguments of which only a part is known. */
-static void expect_said(const char *what, struct bytes arguments, const char *part) {
+/* Expects a message on arguments that contains a part. */
+static void expect_reported(const char *what, struct bytes arguments, const char *part) {
     struct call call = made_csv(TEXT(CSV), arguments, 8192);
     int is_text = call.status == COMFY_SETTINGS_REFUSED && call.needed && call.needed < call.room && call.output[call.needed - 1] == '\n';
     expect(what, is_text && is_untouched(&call, call.needed));
@@ -173,7 +174,7 @@ static void expect_said(const char *what, struct bytes arguments, const char *pa
     free(call.output);
 }
 
-/* Where arguments are cut, and what they ask for. */
+/* Arguments end at zero bytes, and choose the drawing. */
 static void expect_words_are_read(void) {
     struct bytes drawing = TEXT(CSV_DRAWING);
     expect_csv("csv is drawn as arguments ask", TEXT(CSV), TEXT("-s\0ascii\0"), COMFY_DRAWN, drawing);
@@ -199,21 +200,21 @@ static void expect_refusals_are_said(void) {
                TEXT("csvtable: standard input: a quote that opens in line 2 is never closed; try --no-quotes\n"));
     expect_csv("0xFF is no UTF-8 in arguments", TEXT(CSV), TEXT("-s\0\xff\0"), COMFY_SETTINGS_REFUSED, TEXT("csvtable: an argument isn't UTF-8\n"));
     expect_csv("half a character isn't either", TEXT(CSV), TEXT("\xe9\x9b\0"), COMFY_SETTINGS_REFUSED, TEXT("csvtable: an argument isn't UTF-8\n"));
-    expect_said("the version is said", TEXT("--version"), "csvtable ");
-    expect_said("help is said", TEXT("-h\0"), "Usage: csvtable [OPTIONS] [FILE]\n");
-    expect_said("an unknown argument is said", TEXT("--nope\0"), "'--nope'");
-    expect_said("two files are too many", TEXT("a\0b\0"), "csvtable draws one file");
-    expect_said("a width is a number", TEXT("-w\0wide\0"), "'wide'");
-    expect_said("ESC in an argument isn't said", TEXT("--\x1b[31m"), "error: ");
+    expect_reported("the version is reported", TEXT("--version"), "csvtable ");
+    expect_reported("help is reported", TEXT("-h\0"), "Usage: csvtable [OPTIONS] [FILE]\n");
+    expect_reported("an unknown argument is reported", TEXT("--nope\0"), "'--nope'");
+    expect_reported("two files are too many", TEXT("a\0b\0"), "csvtable draws one file");
+    expect_reported("a width is a number", TEXT("-w\0wide\0"), "'wide'");
+    expect_reported("ESC in an argument isn't reported", TEXT("--\x1b[31m"), "error: ");
 }
 
-/* Whether a call made its drawing fill the room that another one asked for. */
-static int is_filled(const struct call *asked, const struct call *call) {
-    return asked->status == (asked->needed ? COMFY_ROOM_TOO_SMALL : COMFY_DRAWN) && call->status == COMFY_DRAWN
-        && call->needed == asked->needed && (!call->needed || call->output[call->needed - 1] == '\n');
+/* Returns true if the drawing of a call fills the buffer whose length an earlier call returned. */
+static int is_filled(const struct call *first, const struct call *call) {
+    return first->status == (first->needed ? COMFY_ROOM_TOO_SMALL : COMFY_DRAWN) && call->status == COMFY_DRAWN
+        && call->needed == first->needed && (!call->needed || call->output[call->needed - 1] == '\n');
 }
 
-/* Every style beside arguments with extreme values, as above. */
+/* Draws CSV in each style, with extreme values of other arguments, in buffers of exactly the length of the drawing. */
 static void expect_csv_fills(struct bytes input) {
     static const char *styles[] = {"rounded", "box", "grid", "ascii", "plain", "markdown", "UTF8_BORDERS_ONLY", "NOTHING"};
     static const char *others[] = {"-w0", "-w1", "-w65535", "-x", "-m1", "--color=always", "--limit=1", "--ansi", "-ecp1252"};
@@ -222,14 +223,14 @@ static void expect_csv_fills(struct bytes input) {
             char arguments[80];
             int count = snprintf(arguments, sizeof arguments, "-s%s%c%s", styles[style], 0, others[other]);
             struct bytes line = {arguments, (size_t)count};
-            struct call asked = made_csv(input, line, 0), call = made_csv(input, line, asked.needed);
-            expect("a drawing of csv fills the room that was asked for", is_filled(&asked, &call));
-            free(asked.output);
+            struct call first = made_csv(input, line, 0), call = made_csv(input, line, first.needed);
+            expect("a drawing of csv fills the buffer of the returned length", is_filled(&first, &call));
+            free(first.output);
             free(call.output);
         }
 }
 
-/* Rows that are drawn: into their room and into more, and into none that is smaller. */
+/* Expects a drawing of rows: in buffers of its length and of more bytes, and not in a smaller one. */
 static void expect_rows(const char *what, const struct rows *rows, struct comfy_rows_settings settings, struct bytes text) {
     struct call full = made_rows(rows, settings, text.length), more = made_rows(rows, settings, text.length + 20);
     struct call less = made_rows(rows, settings, text.length - 1);
@@ -253,7 +254,7 @@ static void expect_rows_refused(const char *what, const struct rows *rows, struc
     free(call.output);
 }
 
-/* Rows that are refused for a setting, which a call on settings alone names. */
+/* Expects that comfy_rows_draw refuses a setting, and that comfy_rows_refused names this setting. */
 static void expect_setting_refused(const char *what, const struct rows *rows, struct comfy_rows_settings settings, uint32_t which) {
     expect_rows_refused(what, rows, settings, COMFY_SETTINGS_REFUSED);
     expect(what, comfy_rows_refused(rows->looks, rows->look_count, rows->heights, rows->height_count, rows->columns,
@@ -381,7 +382,7 @@ static void expect_rows_are_refused(void) {
     expect_setting_refused("there is no such expansion", &rows, settings, COMFY_EXPANSION_REFUSED);
 }
 
-/* Without bytes there is nothing to point to. */
+/* Pointers of length 0 may be null. */
 static void expect_null_is_read_nowhere(void) {
     size_t needed = KEPT;
     uint32_t status = comfy_csv_draw(NULL, 0, NULL, 0, NULL, 0, &needed);
@@ -428,9 +429,9 @@ int main(void) {
     expect_csv_fills(TEXT("\x01"));
     expect_threads_agree();
     uint32_t result = KEPT;
-    char *said = comfy_csv_text((const uint8_t *)CSV, sizeof CSV - 1, (const uint8_t *)"-s\0ascii", 9, &result);
-    expect("csv is drawn into memory of malloc", said && result == COMFY_DRAWN && !strcmp(said, CSV_DRAWING));
-    free(said);
+    char *reported = comfy_csv_text((const uint8_t *)CSV, sizeof CSV - 1, (const uint8_t *)"-s\0ascii", 9, &result);
+    expect("csv is drawn into memory of malloc", reported && result == COMFY_DRAWN && !strcmp(reported, CSV_DRAWING));
+    free(reported);
     if (!wrong) printf("calls: all as comfy_table.h says\n");
     return wrong ? 1 : 0;
 }

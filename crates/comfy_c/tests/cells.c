@@ -1,6 +1,7 @@
 /*
- * Calls of comfy_cells_draw, each with the result that comfy_table.h says. It prints what is wrong, and ends with 1 where anything
- * is. All that a call reads and writes ends where no page follows, so that a byte too many ends the program.
+ * Calls comfy_cells_draw, and compares each result with the one that comfy_table.h gives. Prints each fault, and ends with status
+ * 1 if there is one. Each array that a call reads or writes ends at the end of a page, and no page follows. So a read or a write
+ * after its end ends the program.
  */
 #define _GNU_SOURCE
 #include "comfy_table.h"
@@ -21,7 +22,7 @@ static void expect(const char *what, int is_so) {
     printf("wrong: %s\n", what);
 }
 
-/* Pages with so many bytes at their end, and none behind them. */
+/* Pages with a number of bytes at their end, and no page after them. */
 struct region {
     uint8_t *pages, *bytes;
     size_t size, length;
@@ -44,7 +45,7 @@ static void unmap(struct region region) {
     munmap(region.pages, region.size);
 }
 
-/* A table as a caller passes it, of at most so many cells, rows and columns. */
+/* The arguments of comfy_cells_draw, with room for a fixed number of cells, rows and columns. */
 struct table {
     const char *texts;
     size_t length;
@@ -58,7 +59,7 @@ struct table {
 
 static const struct comfy_column PADDED = {.left_padding = 1, .right_padding = 1};
 
-/* A header of two cells, and a row of two. */
+/* A header of two cells, and a row of two cells. */
 static struct table plain(void) {
     return (struct table){"namedaysoats3", 13, {{.length = 4}, {.length = 4}, {.length = 4}, {.length = 1}}, {{2, 0}, {2, 0}}, {PADDED, PADDED},
         4, 2, 2, "", {.width = COMFY_NO_WIDTH, .has_header = 1, .enforce_styling = 1}};
@@ -72,7 +73,7 @@ static const char PLAIN[] =
     "| oats | 3    |\n"
     "+------+------+\n";
 
-/* What a call returned and wrote. */
+/* The result of a call, and the bytes that it wrote. */
 struct call {
     uint32_t status;
     size_t needed;
@@ -111,7 +112,7 @@ static int is_put(const struct call *call, const char *text) {
         && !memcmp(call->output.bytes, text, length) && is_untouched(call, length);
 }
 
-/* A table that is drawn: into its room and into more, into none that is smaller, and into memory of malloc. */
+/* Expects a drawing of a table: in buffers of its length and of more bytes, in memory of malloc, and not in a smaller buffer. */
 static void expect_drawn(const char *what, const struct table *table, const char *text) {
     size_t length = strlen(text);
     struct call full = made(table, length), more = made(table, length + 20), less = made(table, length - 1);
@@ -175,7 +176,7 @@ static void expect_texts_are_refused(void) {
     expect_refused("settings are looked at first", &table, COMFY_SETTINGS_REFUSED);
 }
 
-/* A table that is refused for a setting, which a call on settings alone names. */
+/* Expects that comfy_cells_draw refuses a setting, and that comfy_cells_refused names this setting. */
 static void expect_setting_refused(const char *what, const struct table *table, uint32_t which) {
     expect_refused(what, table, COMFY_SETTINGS_REFUSED);
     expect(what, comfy_cells_refused(&table->settings) == which);
@@ -193,7 +194,7 @@ static void expect_settings_are_refused(void) {
     expect_setting_refused("there is no such arrangement", &table, COMFY_ARRANGEMENT_REFUSED);
 }
 
-/* Numbers that stand for nothing, in each place, leave a table as it is. */
+/* A number without a meaning changes nothing, whichever setting has it. */
 static void expect_unknown_numbers_are_none(void) {
     struct table table = plain();
     expect_drawn("a table is drawn", &table, PLAIN);
@@ -256,7 +257,7 @@ static void expect_settings_are_kept(void) {
     expect_drawn("widths are counted", &table, "4\n");
 }
 
-/* Every style and arrangement at extreme widths: asked for its length first, the drawing fills that room exactly. */
+/* Every style and arrangement at extreme widths: the drawing fills a buffer of the length that a first call returned. */
 static void expect_all_fill(void) {
     static const uint32_t widths[] = {0, 1, 40, 65535, 65536, COMFY_NO_WIDTH};
     for (uint32_t style = COMFY_ASCII_FULL; style <= COMFY_ROUNDED; style++)
@@ -267,15 +268,15 @@ static void expect_all_fill(void) {
                 table.settings.style = style;
                 table.settings.arrangement = arrangement;
                 table.settings.width = widths[i];
-                struct call asked = made(&table, 0), call = made(&table, asked.needed);
-                expect("a drawing fills the room that was asked for", asked.status == COMFY_ROOM_TOO_SMALL && call.status == COMFY_DRAWN
-                       && call.needed == asked.needed && call.output.bytes[call.needed - 1] == '\n');
-                unmap(asked.output);
+                struct call first = made(&table, 0), call = made(&table, first.needed);
+                expect("a drawing fills the buffer of the returned length", first.status == COMFY_ROOM_TOO_SMALL && call.status == COMFY_DRAWN
+                       && call.needed == first.needed && call.output.bytes[call.needed - 1] == '\n');
+                unmap(first.output);
                 unmap(call.output);
             }
 }
 
-/* Without bytes and structs there is nothing to point to. NOTHING draws no line of an empty table, ASCII_FULL draws two of one. */
+/* Pointers of length 0 may be null. An empty table has no line in the style NOTHING, and two lines in ASCII_FULL. */
 static void expect_null_is_read_nowhere(void) {
     size_t needed = KEPT;
     struct comfy_cells_settings settings = {.style = COMFY_NOTHING, .has_header = 1};

@@ -1,7 +1,8 @@
 /*
- * Random calls: any bytes, lengths, arguments, numbers and rooms. What a call reads ends where no page follows, and so does
- * its buffer, so that a byte too many ends the program. It prints what is wrong, and ends with 1 where anything is.
- * The calls are those of a seed, first from one thread, and then from four at once: random_calls [SEED].
+ * Random calls, with any bytes, lengths, arguments, numbers and buffers. Each array that a call reads ends at the end of a page, and
+ * no page follows. The same is true of the buffer. So a read or a write after its end ends the program. Prints each fault, and ends
+ * with status 1 if there is one. The calls follow from a seed. First one thread makes them, and then four threads at once:
+ * random_calls [SEED].
  */
 #define _GNU_SOURCE
 #include "comfy_table.h"
@@ -15,7 +16,7 @@
 
 enum { CALLS = 100000, THREADS = 4, ROOM = 1 << 14, KEPT = 77, UNTOUCHED = 7 };
 
-/* Pages behind which there is none. */
+/* Pages with no page after them. */
 struct region {
     uint8_t *end;
 };
@@ -27,7 +28,7 @@ static struct region new_region(void) {
     return (struct region){start + length};
 }
 
-/* What one thread calls with, and what it has found. */
+/* The memory for the calls of one thread, and the faults that it found. */
 struct caller {
     uint64_t seed;
     long calls, wrong;
@@ -46,19 +47,19 @@ static size_t below(struct caller *caller, size_t limit) {
     return (size_t)(next(caller) % limit);
 }
 
-/* Mostly a short length, and now and then a long one. */
+/* A length that is mostly short, and sometimes long. */
 static size_t any_length(struct caller *caller) {
     size_t kind = below(caller, 64);
     return below(caller, kind == 0 ? ROOM : kind < 8 ? 600 : 80);
 }
 
-/* A width or a number, extreme ones among them. */
+/* A width or another number, sometimes an extreme one. */
 static uint32_t any_number(struct caller *caller, uint32_t usual) {
     static const uint32_t extremes[] = {0, 1, 65535, 65536, UINT32_MAX};
     return below(caller, 8) ? (uint32_t)below(caller, usual) : extremes[below(caller, 5)];
 }
 
-/* Fills bytes with pieces, or each with any value. */
+/* Fills memory with pieces of text, or with random bytes. */
 static void fill(struct caller *caller, uint8_t *bytes, size_t length, const char *const *pieces, size_t count) {
     size_t noise = below(caller, 8) ? 40 : 2;
     for (size_t i = 0; i < length;) {
@@ -79,7 +80,7 @@ static void fill_input(struct caller *caller, uint8_t *bytes, size_t length) {
     fill(caller, bytes, length, pieces, sizeof pieces / sizeof *pieces);
 }
 
-/* Arguments of csvtable, each with its end; the last one may lose it. */
+/* Arguments of csvtable, each with a zero byte at its end. The last one may have none. */
 static size_t put_words(struct caller *caller, uint8_t *bytes, size_t room) {
     static const char *const arguments[] = {"-d", ";", "tab", "auto", "-t", "-e", "cp1252", "utf-16", "--no-quotes", "--skip", "1", "-n", "--limit", "2",
         "-c", "1", "2-", "name", "--drop", "a", "-r", "--left", "-w", "40", "0", "65535", "--full", "-x", "--expanded", "never", "-s", "grid", "ascii",
@@ -94,14 +95,14 @@ static size_t put_words(struct caller *caller, uint8_t *bytes, size_t room) {
     return length && below(caller, 2) ? length - 1 : length;
 }
 
-/* Whether the buffer is as it was from one position on. */
+/* Returns true if the bytes of the buffer from a position on are unchanged. */
 static int is_untouched(const uint8_t *output, size_t from, size_t room) {
     for (size_t i = from; i < room; i++)
         if (output[i] != UNTOUCHED) return 0;
     return 1;
 }
 
-/* Whether all that was put into a buffer is a text of needed bytes that ends with a line feed. */
+/* Returns true if a call wrote only a text of `needed` bytes that ends with a line feed. */
 static int is_put(const uint8_t *output, size_t room, size_t needed) {
     return needed <= room && (needed == 0 || output[needed - 1] == '\n') && is_untouched(output, needed, room);
 }
@@ -139,7 +140,7 @@ static uint32_t call_csv(struct caller *caller, size_t length, size_t room, size
     return comfy_csv_draw(caller->input.end - length, length, caller->arguments.end - count, count, caller->output.end - room, room, needed);
 }
 
-/* Numbers that mostly add up to a sum, at the end of some pages. */
+/* Numbers at the end of some pages. Mostly they add up to a given sum. */
 static size_t put_parts(struct caller *caller, struct region region, size_t sum, size_t most) {
     size_t parts[64], count = 0, rest = sum;
     while (count < 63 && rest && below(caller, 32)) {
@@ -153,7 +154,7 @@ static size_t put_parts(struct caller *caller, struct region region, size_t sum,
     return count;
 }
 
-/* A number that mostly stands for one of a few things. */
+/* A number that is mostly one of a few with a meaning. */
 static uint32_t any_of(struct caller *caller, uint32_t count) {
     return below(caller, 32) ? (uint32_t)below(caller, count) : (uint32_t)next(caller);
 }
@@ -192,7 +193,7 @@ static struct comfy_frame any_frame(struct caller *caller) {
     return (struct comfy_frame){any_line(caller), any_content_line(caller), any_line(caller), any_content_line(caller), any_line(caller), any_line(caller)};
 }
 
-/* Columns of rows at the end of some pages, often with a side alone. */
+/* Columns of a table of rows at the end of some pages. Often only their sides are set. */
 static struct comfy_rows_column *put_rows_columns(struct caller *caller, size_t count) {
     struct comfy_rows_column *columns = (struct comfy_rows_column *)(void *)caller->columns.end - count;
     int are_plain = below(caller, 2) == 0;
@@ -203,7 +204,7 @@ static struct comfy_rows_column *put_rows_columns(struct caller *caller, size_t 
     return columns;
 }
 
-/* None, or as many as there are of something else; now and then one fewer. */
+/* 0 or a given number, and sometimes one less than this number. */
 static size_t any_count(struct caller *caller, size_t count) {
     if (below(caller, 2)) return 0;
     return count && below(caller, 16) == 0 ? count - 1 : count;
@@ -236,7 +237,7 @@ static uint32_t call_rows(struct caller *caller, size_t length, size_t room, siz
                            heights, put_rows_columns(caller, columns), columns, &settings, caller->output.end - room, room, needed);
 }
 
-/* Cells of the lengths that stand at the end of some pages, in their place. */
+/* Replaces the lengths at the end of some pages by cells of these lengths. */
 static struct comfy_cell *put_cells(struct caller *caller, size_t count) {
     size_t lengths[64];
     memcpy(lengths, caller->lengths.end - count * sizeof(size_t), count * sizeof(size_t));
@@ -273,7 +274,7 @@ static uint32_t call_cells(struct caller *caller, size_t length, size_t room, si
                             (const uint8_t *)"..\xff", indicator, &settings, caller->output.end - room, room, needed);
 }
 
-/* A call of one of the functions. What it reads stands at the ends of its pages, where arguments are written from a copy. */
+/* A call of one of the functions. The bytes that it reads are at the ends of its pages. Its arguments are copied there. */
 static void call(struct caller *caller) {
     static const char *const names[] = {"cells", "csv", "rows"};
     size_t length = any_length(caller), room = any_length(caller), needed = KEPT, which = below(caller, 3);
@@ -298,7 +299,7 @@ static struct caller new_caller(uint64_t seed, long calls) {
     return (struct caller){seed, calls, 0, {{0}, {0}, {0}}, new_region(), new_region(), new_region(), new_region(), new_region(), new_region(), new_region()};
 }
 
-/* Whether each result came that comes without a refused request for memory. CSV has no lengths. */
+/* Returns true if each result was returned at least once, except COMFY_OUT_OF_MEMORY. CSV has no lengths to refuse. */
 static int has_all(const struct caller *caller) {
     for (int which = 0; which < 3; which++)
         for (uint32_t status = 0; status < (which == 1 ? 5 : 6); status++)

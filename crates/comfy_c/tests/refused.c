@@ -1,6 +1,6 @@
 /*
- * Refuses each request for memory of a call, one after another: the call has to say so, to touch nothing and to keep no
- * memory. Link it with -Wl,--wrap=malloc,--wrap=realloc,--wrap=free.
+ * Refuses each request for memory of a call, one after another. The call then has to return COMFY_OUT_OF_MEMORY, leave its buffer
+ * unchanged, and free all memory. Link it with -Wl,--wrap=malloc,--wrap=realloc,--wrap=free.
  */
 #include "comfy_table.h"
 
@@ -37,7 +37,7 @@ void __wrap_free(void *block) {
 
 static uint8_t output[8192], written[8192];
 
-/* Calls that end with one result where memory is there. */
+/* Calls that all have the same result if there is memory. */
 
 static uint32_t cells_are_drawn(size_t *needed) {
     static const uint8_t texts[] = "namedaysoats and \xe9\x9b\xa8 more3";
@@ -112,8 +112,8 @@ static int is_untouched(void) {
 }
 
 /*
- * Refuses each request of a call in turn, until none is left. A call may do without some: a list that can't double grows by as
- * much as it needs. Then the call writes the same bytes.
+ * Refuses each request of a call in turn, until the call makes no further request. A call can succeed without some requests: a list
+ * that can't double its memory then grows by as much as it needs. In this case the call must write the same bytes.
  */
 static long wrong_in(const char *what, uint32_t (*call)(size_t *), uint32_t wanted) {
     long wrong = 0, spared = 0;

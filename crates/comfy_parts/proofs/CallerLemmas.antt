@@ -12,7 +12,7 @@ pub use Rattle.comfy_parts.proofs.KeptLemmas.{lines_keep_the_text}
 pub use Rattle.comfy_parts.proofs.LineTextLemmas.{Shows-visible, none_open, visible-closed}
 pub use Rattle.comfy_parts.proofs.LinesFitLemmas.{IsFittingLine}
 pub use Rattle.comfy_parts.proofs.ListLemmas.{All-at, All-every, All-flat_map, All-found, All-given, All-join_by, All-none, All-of_map, All-others, All-same_map, AllZip-append, AllZip-join_by, AllZip-map, AllZip-map_map, AllZip-take, At-or, At-or-both, enumerated_all, enumerated_more, every-always, every-append, every-both, every-each_part, every-filter, every-first, every-flat_map, every-map, every-parts, every-places, every-second, every-weaker, every_kept, every_shows_one, filter-places, filter_all, filtered_all, filtered_more, index-map, index-places, join_by-map, join_by_more, join_by_push, joined_all, joined_more, length-filter_places, map-places, only_one, repeat_more, set-places, zip-nil}
-pub use Rattle.comfy_parts.proofs.OpenTextLemmas.{OpensNone, StandsAlone, none-after, opens-alone, opens-append, opens-clear, opens-reset, opens-spaced, stands-append, stands-clear, stands-closed, stands-visible, stands-sequence}
+pub use Rattle.comfy_parts.proofs.OpenTextLemmas.{OpensNone, IsScannedAlone, none-after, opens-alone, opens-append, opens-clear, opens-reset, opens-spaced, alone-append, alone-clear, alone-closed, alone-visible, alone-sequence}
 pub use Rattle.comfy_parts.proofs.PlaceLemmas.{head-utf8, scalars-parts}
 pub use Rattle.comfy_parts.proofs.PrintableTextLemmas.{IsPrintableLine, lines_of_text-printable, slices-printable}
 pub use Rattle.comfy_parts.proofs.PrintableLemmas.{IsUtf8-printable, ascii-printable, below_seven_bits, head-printable, measure-printable, take-printable}

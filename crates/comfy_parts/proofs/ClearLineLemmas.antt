@@ -81,8 +81,8 @@ clear_past w d earlier [] before clear = tt
 clear_past w d earlier (text ∷ texts) before clear =
     let both = or_parts (has_escape text) (list_any has_escape texts) clear in
     every-append IsAsMeasured (line_texts_of_text w d earlier text) (line_texts_past w d (earlier ++ text ∷ []) texts)
-    (every-second IsAsMeasured _ (line_texts_of_text w d earlier text) (each_slice w d (λ from line. IsAsMeasured line) earlier text (λ start line stands.
-    line_text-clear earlier text start (length line) before both.0 ∙ ap (λ (t : Text). take (length line) (drop start t)) (sym (clear_text text both.0)) ∙ stands)))
+    (every-second IsAsMeasured _ (line_texts_of_text w d earlier text) (each_slice w d (λ from line. IsAsMeasured line) earlier text (λ start line is_at.
+    line_text-clear earlier text start (length line) before both.0 ∙ ap (λ (t : Text). take (length line) (drop start t)) (sym (clear_text text both.0)) ∙ is_at)))
     (clear_past w d (earlier ++ text ∷ []) texts (further both.0) both.1)
   where
     further : has_escape text ≡ false → AreClear (earlier ++ text ∷ [])

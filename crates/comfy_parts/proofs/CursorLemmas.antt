@@ -10,10 +10,10 @@ use Rattle.std.proofs.lemmas.Grind.{flat_map-append}
 use Rattle.std.proofs.Math.Seq.{take-append-add, take-append_seam, take-length, drop-append-add, drop-append_seam}
 use Rattle.std.proofs.lemmas.List.{length-take-le, take-append-le}
 use Rattle.std.proofs.lemmas.Str.{IsCharBoundary-from_take, IsUtf8-drop}
-use Rattle.comfy_parts.specs.Cursor.{CursorValue, StandsAt, at_byte, begins_with_sequence, behind_bytes, bytes_up_to, character_parts, open_at_end, parts_behind, visible_part}
+use Rattle.comfy_parts.specs.Cursor.{CursorValue, IsAt, at_byte, begins_with_sequence, bytes_up_to, character_parts, open_at_end, parts_after, past_bytes, visible_part}
 use Rattle.comfy_parts.specs.Text.{Text, IsOnly, begins_with}
 use Rattle.comfy_parts.specs.VisibleText.{Part, opened, parts, parts_before, parts_from, parts_up_to, visible_bytes, visible_text}
-use Rattle.comfy_parts.proofs.FrontLemmas.{parts-behind_sequence, visible_bytes-visible}
+use Rattle.comfy_parts.proofs.FrontLemmas.{parts-after_sequence, visible_bytes-visible}
 use Rattle.comfy_parts.proofs.LineTextLemmas.{before_from, before_further}
 use Rattle.comfy_parts.proofs.OpenLemmas.{opened-append}
 use Rattle.comfy_parts.proofs.ScanLemmas.{bytes_of, scan}
@@ -52,21 +52,21 @@ from_further (suc n) k (suc m) (p ∷ ps) is =
     (elim p.is_sequence as (λ b. (if b then suc m else m) ≡ (if b then suc n else n) + k) [ true ↦ is | false ↦ omega (arith, is) ])
 
 -- the parts up to a visible byte, and the parts after it, are all parts
-pub up_to_behind : (n : ℕ) (ps : List Part) → parts_up_to n ps ++ parts_behind n ps ≡ ps
-up_to_behind zero ps = refl
-up_to_behind (suc n) [] = refl
-up_to_behind (suc n) (p ∷ ps) = ap (λ qs. p ∷ qs) (up_to_behind (if p.is_sequence then suc n else n) ps)
+pub up_to_after : (n : ℕ) (ps : List Part) → parts_up_to n ps ++ parts_after n ps ≡ ps
+up_to_after zero ps = refl
+up_to_after (suc n) [] = refl
+up_to_after (suc n) (p ∷ ps) = ap (λ qs. p ∷ qs) (up_to_after (if p.is_sequence then suc n else n) ps)
 
 -- the parts up to the n-th visible byte, and the sequences after it, are the parts before the next visible byte
-up_to_before : (n : ℕ) (ps : List Part) → parts_up_to n ps ++ parts_before zero (parts_behind n ps) ≡ parts_before n ps
+up_to_before : (n : ℕ) (ps : List Part) → parts_up_to n ps ++ parts_before zero (parts_after n ps) ≡ parts_before n ps
 up_to_before zero ps = refl
 up_to_before (suc n) [] = refl
 up_to_before (suc n) (p ∷ ps) = ap (λ qs. p ∷ qs) (up_to_before (if p.is_sequence then suc n else n) ps)
 
-behind_from : (n : ℕ) (ps : List Part) → parts_from zero (parts_behind n ps) ≡ parts_from n ps
-behind_from zero ps = refl
-behind_from (suc n) [] = refl
-behind_from (suc n) (p ∷ ps) = behind_from (if p.is_sequence then suc n else n) ps
+after_from : (n : ℕ) (ps : List Part) → parts_from zero (parts_after n ps) ≡ parts_from n ps
+after_from zero ps = refl
+after_from (suc n) [] = refl
+after_from (suc n) (p ∷ ps) = after_from (if p.is_sequence then suc n else n) ps
 
 -- ---- positions of a cursor
 
@@ -78,21 +78,21 @@ at_further n k c =
     (from_further n k (n + k) c.ahead refl)
 
 -- a cursor after the next sequences is at its old position up to sequences
-pub stands-itself : (c : CursorValue) → StandsAt (at_byte 0 c) 0 c
-stands-itself c = at_further 0 0 c
+pub at-itself : (c : CursorValue) → IsAt (at_byte 0 c) 0 c
+at-itself c = at_further 0 0 c
 
 -- two moves by n and by k visible bytes are a move by n + k
-pub stands-more : (n k : ℕ) (old mid new : CursorValue) → StandsAt mid n old → StandsAt new k mid → StandsAt new (n + k) old
-stands-more n k old mid new first next =
+pub at-more : (n k : ℕ) (old mid new : CursorValue) → IsAt mid n old → IsAt new k mid → IsAt new (n + k) old
+at-more n k old mid new first next =
     let plain : 0 + k ≡ k = omega arith in
     next ∙ ap (λ j. at_byte j mid) (sym plain) ∙ sym (at_further 0 k mid) ∙ ap (at_byte k) first ∙ at_further n k old
 
 -- a cursor moved past n visible bytes is at the n-th one up to sequences
-pub stands-behind : (n : ℕ) (c : CursorValue) → StandsAt (behind_bytes n c) n c
-stands-behind n c =
+pub at-past : (n : ℕ) (c : CursorValue) → IsAt (past_bytes n c) n c
+at-past n c =
     ap₂ at
-    (sym (opened-append c.sequences (parts_up_to n c.ahead) (parts_before zero (parts_behind n c.ahead))) ∙ ap (opened c.sequences) (up_to_before n c.ahead))
-    (behind_from n c.ahead)
+    (sym (opened-append c.sequences (parts_up_to n c.ahead) (parts_before zero (parts_after n c.ahead))) ∙ ap (opened c.sequences) (up_to_before n c.ahead))
+    (after_from n c.ahead)
 
 -- a move doesn't change the sequences that are open at the end of the text line
 pub end-at : (n : ℕ) (c : CursorValue) → open_at_end (at_byte n c) ≡ open_at_end c
@@ -100,8 +100,8 @@ end-at n c =
     sym (opened-append c.sequences (parts_before n c.ahead) (parts_from n c.ahead)) ∙ ap (opened c.sequences) (before_from n c.ahead)
 
 -- a cursor that is at the new position only up to sequences has the same sequences at the end of the text line
-pub end-stands : (n : ℕ) (new old : CursorValue) → StandsAt new n old → open_at_end new ≡ open_at_end old
-end-stands n new old stands = sym (end-at 0 new) ∙ ap open_at_end stands ∙ end-at n old
+pub end-same : (n : ℕ) (new old : CursorValue) → IsAt new n old → open_at_end new ≡ open_at_end old
+end-same n new old is_at = sym (end-at 0 new) ∙ ap open_at_end is_at ∙ end-at n old
 
 -- ---- after sequences
 
@@ -123,24 +123,24 @@ visible-front (p ∷ ps) = grind (arith, cond_both, visible-front ps)
 -- ---- visible bytes are passed
 
 -- visible bytes at the front are passed first, and fewer are left to pass
-pub visible-behind : (n : ℕ) (ss : List Text) (bs : Text) (ps : List Part) → length bs ≤ n → behind_bytes n (at ss (map visible_part bs ++ ps)) ≡ behind_bytes (n - length bs) (at ss ps)
-visible-behind n ss [] ps few = grind arith
-visible-behind zero ss (b ∷ bs) ps few = absurd (omega (arith, few))
-visible-behind (suc n) ss (b ∷ bs) ps few = grind (arith, visible-behind n ss bs ps (omega (arith, few)))
+pub visible-after : (n : ℕ) (ss : List Text) (bs : Text) (ps : List Part) → length bs ≤ n → past_bytes n (at ss (map visible_part bs ++ ps)) ≡ past_bytes (n - length bs) (at ss ps)
+visible-after n ss [] ps few = grind arith
+visible-after zero ss (b ∷ bs) ps few = absurd (omega (arith, few))
+visible-after (suc n) ss (b ∷ bs) ps few = grind (arith, visible-after n ss bs ps (omega (arith, few)))
 
 -- a cursor after some visible bytes is as many bytes further on
-visible-stands : (ss : List Text) (bs : Text) (ps : List Part) → StandsAt (at ss ps) (length bs) (at ss (map visible_part bs ++ ps))
-visible-stands ss [] ps = refl
-visible-stands ss (b ∷ bs) ps = visible-stands ss bs ps
+visible-at : (ss : List Text) (bs : Text) (ps : List Part) → IsAt (at ss ps) (length bs) (at ss (map visible_part bs ++ ps))
+visible-at ss [] ps = refl
+visible-at ss (b ∷ bs) ps = visible-at ss bs ps
 
-pub character-stands : (ss : List Text) (c : ℕ) (ps : List Part) → StandsAt (at ss ps) (length (encode_utf8 c)) (at ss (character_parts c ++ ps))
-character-stands ss c ps = visible-stands ss (encode_utf8 c) ps
+pub character-at : (ss : List Text) (c : ℕ) (ps : List Part) → IsAt (at ss ps) (length (encode_utf8 c)) (at ss (character_parts c ++ ps))
+character-at ss c ps = visible-at ss (encode_utf8 c) ps
 
 -- ---- the front of a text
 
 -- if the first part of a text isn't a sequence, the text doesn't begin with one
 pub none_ahead : (text : Text) → begins_with_sequence (parts text) ≡ false → begins text ≡ false
-none_ahead text none = grind (arith, none_at_front, true≢false, parts-behind_sequence)
+none_ahead text none = grind (arith, none_at_front, true≢false, parts-after_sequence)
 
 -- if a text begins with neither a sequence nor d, its visible text doesn't begin with d
 pub begins_visible : (d : ℕ) (text : Text) → IsUtf8 text → begins text ≡ false → begins_with d text ≡ false → begins_with d (visible_text text) ≡ false
@@ -158,8 +158,8 @@ begins_visible d text (c ∷ cs, (scalars, is)) free otherwise =
 -- ---- whole characters
 
 -- if n bytes are whole characters, and so are the first of them, the rest of them is whole characters
-pub whole-behind : (n : ℕ) (run rest : Text) → IsUtf8 run → length run ≤ n → IsUtf8 (take n (run ++ rest)) → IsUtf8 (take (n - length run) rest)
-whole-behind n run rest whole few all =
+pub whole-after : (n : ℕ) (run rest : Text) → IsUtf8 run → length run ≤ n → IsUtf8 (take n (run ++ rest)) → IsUtf8 (take (n - length run) rest)
+whole-after n run rest whole few all =
     subst IsUtf8 (ap (drop (length run)) cut ∙ drop-append_seam run (take (n - length run) rest)) (IsUtf8-drop (take n (run ++ rest)) (length run) all place)
   where
     cut : take n (run ++ rest) ≡ run ++ take (n - length run) rest
@@ -173,8 +173,8 @@ whole-behind n run rest whole few all =
         IsCharBoundary-from_take (take n (run ++ rest)) (length run) all (omega (arith, long)) (subst IsUtf8 (sym (ap (take (length run)) cut ∙ take-append_seam run (take (n - length run) rest))) whole)
 
 -- dropping n bytes after a run that has at most n drops the rest of them after the run
-pub drops-behind : (n : ℕ) (run rest : Text) → length run ≤ n → drop n (run ++ rest) ≡ drop (n - length run) rest
-drops-behind n run rest few = grind (arith, drop-append-add)
+pub drops-after : (n : ℕ) (run rest : Text) → length run ≤ n → drop n (run ++ rest) ≡ drop (n - length run) rest
+drops-after n run rest few = grind (arith, drop-append-add)
 
 -- a run of visible bytes at the front of a text ends at a character boundary
 pub run-place : (n most : ℕ) (text : Text) → IsUtf8 text → n ≤ most → n ≤ length text → (n < most → IsCharBoundary text n)
@@ -201,7 +201,7 @@ pub record IsTaken (taken text rest : Text) : Type 0 where
   pub place : length text - length rest ≡ length taken
 
 -- a cursor that passed n visible bytes has passed such bytes
-pub is_taken : (n : ℕ) (old : CursorValue) (text rest : Text) → old.ahead ≡ parts text → parts_behind n old.ahead ≡ parts rest → IsTaken (bytes_up_to n old) text rest
+pub is_taken : (n : ℕ) (old : CursorValue) (text rest : Text) → old.ahead ≡ parts text → parts_after n old.ahead ≡ parts rest → IsTaken (bytes_up_to n old) text rest
 is_taken n old text rest before after =
     let bytes = ap length joined ∙ length-append (bytes_up_to n old) rest in
     record { joined = joined; fits = omega (arith, bytes); place = omega (arith, bytes) }
@@ -209,8 +209,8 @@ is_taken n old text rest before after =
     joined : text ≡ bytes_up_to n old ++ rest
     joined =
         sym (scan text).bytes
-        ∙ ap bytes_of (sym before ∙ sym (up_to_behind n old.ahead))
-        ∙ flat_map-append (λ (p : Part). p.bytes) (parts_up_to n old.ahead) (parts_behind n old.ahead)
+        ∙ ap bytes_of (sym before ∙ sym (up_to_after n old.ahead))
+        ∙ flat_map-append (λ (p : Part). p.bytes) (parts_up_to n old.ahead) (parts_after n old.ahead)
         ∙ ap (λ t. bytes_up_to n old ++ t) (ap bytes_of after ∙ (scan rest).bytes)
 
 -- ---- sequences

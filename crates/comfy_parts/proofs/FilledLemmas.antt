@@ -23,20 +23,20 @@ one_column d adds =
 
 -- the part of a text that a line has passed after its first element: whole characters, which fill the line from `from`
 -- to `to` terminal columns
-pub record HasPassed (d from to : ℕ) (behind rest : Text) : Type 0 where
+pub record HasPassed (d from to : ℕ) (after rest : Text) : Type 0 where
   pub passed : Text
-  pub splits : behind ≡ passed ++ rest
+  pub splits : after ≡ passed ++ rest
   pub whole : IsUtf8 passed
   pub fills : AddsOneColumn d → FillsTo from to passed
 
 -- at first the line has passed nothing
-pub passed-none : (d from : ℕ) (behind : Text) → HasPassed d from from behind behind
-passed-none d from behind = record { passed = []; splits = refl; whole = IsUtf8-nil; fills = λ _ front _. ap (λ (t : Text). measure t + from) (append-nil front) }
+pub passed-none : (d from : ℕ) (after : Text) → HasPassed d from from after after
+passed-none d from after = record { passed = []; splits = refl; whole = IsUtf8-nil; fills = λ _ front _. ap (λ (t : Text). measure t + from) (append-nil front) }
 
 -- then the line passes a delimiter and one more element
-pub passed-next : (d from to : ℕ) (behind rest others next following : Text) → IsScalar d → HasPassed d from to behind rest → rest ≡ encode_utf8 d ++ others → IsFirstElement d others next following
-    → (to' : ℕ) → to' ≡ to + (measure next + measure (encode_utf8 d)) → HasPassed d from to' behind following
-passed-next d from to behind rest others next following scalar before splits element to' sum =
+pub passed-next : (d from to : ℕ) (after rest others next following : Text) → IsScalar d → HasPassed d from to after rest → rest ≡ encode_utf8 d ++ others → IsFirstElement d others next following
+    → (to' : ℕ) → to' ≡ to + (measure next + measure (encode_utf8 d)) → HasPassed d from to' after following
+passed-next d from to after rest others next following scalar before splits element to' sum =
     let step : rest ≡ (encode_utf8 d ++ next) ++ following = splits ∙ ap (λ (t : Text). encode_utf8 d ++ t) (sym element.joined) ∙ sym (append_assoc (encode_utf8 d) next following) in
     record {
       passed = before.passed ++ (encode_utf8 d ++ next);
@@ -50,17 +50,17 @@ passed-next d from to behind rest others next following scalar before splits ele
     }
 
 -- the bytes that were passed fill the line up to `to`
-pub passed-bytes : (d from to : ℕ) (behind rest : Text) → HasPassed d from to behind rest → (bytes : ℕ) → bytes + length rest ≡ length behind → AddsOneColumn d → FillsTo from to (take bytes behind)
-passed-bytes d from to behind rest is bytes size adds =
+pub passed-bytes : (d from to : ℕ) (after rest : Text) → HasPassed d from to after rest → (bytes : ℕ) → bytes + length rest ≡ length after → AddsOneColumn d → FillsTo from to (take bytes after)
+passed-bytes d from to after rest is bytes size adds =
     let long = ap length is.splits ∙ length-append is.passed rest in
-    let here : take bytes behind ≡ is.passed = ap (take bytes) is.splits ∙ take_at is.passed rest bytes (omega (arith, long, size)) in
+    let here : take bytes after ≡ is.passed = ap (take bytes) is.splits ∙ take_at is.passed rest bytes (omega (arith, long, size)) in
     rw here (is.fills adds)
 
 -- the width of a line is that of its first element and of the bytes after it
-pub line-columns : (d : ℕ) (text behind : Text) (first from bytes : ℕ) → AddsOneColumn d → IsUtf8 (take first text) → from ≡ measure (take first text) → behind ≡ drop first text → (columns : Option ℕ)
-    → IfSome columns (λ to. AddsOneColumn d → FillsTo from to (take bytes behind)) → IfSome columns (λ to. to ≡ measure (take (first + bytes) text))
-line-columns d text behind first from bytes adds utf8 columns back None fills = tt
-line-columns d text behind first from bytes adds utf8 columns back (Some to) fills =
+pub line-columns : (d : ℕ) (text after : Text) (first from bytes : ℕ) → AddsOneColumn d → IsUtf8 (take first text) → from ≡ measure (take first text) → after ≡ drop first text → (columns : Option ℕ)
+    → IfSome columns (λ to. AddsOneColumn d → FillsTo from to (take bytes after)) → IfSome columns (λ to. to ≡ measure (take (first + bytes) text))
+line-columns d text after first from bytes adds utf8 columns back None fills = tt
+line-columns d text after first from bytes adds utf8 columns back (Some to) fills =
     let all = fills adds (take first text) utf8 in
     let joined = ap measure (take-add first bytes text ∙ ap (λ (t : Text). take first text ++ take bytes t) (sym back)) in
     omega (arith, all, columns, joined)

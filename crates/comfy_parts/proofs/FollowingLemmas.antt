@@ -49,7 +49,7 @@ elements-found d text i j scalar utf8 (none, at) boundary =
 pub first-found : (d : ℕ) (text : Text) (i j : ℕ) → IsScalar d → IsUtf8 text → FindsChar d text (Some (i, j)) → IsCharBoundary text i
     → IsFirstElement d text (take i text) (drop i text)
 first-found d text i j scalar utf8 found boundary =
-    record { others = elements d (drop j text); elements_are = elements-found d text i j scalar utf8 found boundary; follow = follow-delimiter d (drop j text) (drop i text) found.1.split; joined = take-append-drop i text; whole_first = IsUtf8-take text i utf8 boundary; whole_behind = IsUtf8-drop text i utf8 boundary }
+    record { others = elements d (drop j text); elements_are = elements-found d text i j scalar utf8 found boundary; follow = follow-delimiter d (drop j text) (drop i text) found.1.split; joined = take-append-drop i text; whole_first = IsUtf8-take text i utf8 boundary; whole_after = IsUtf8-drop text i utf8 boundary }
 
 -- the text before the first delimiter is whole characters
 utf8-found : (d : ℕ) (text : Text) (i j : ℕ) → IsUtf8 text → FindsChar d text (Some (i, j)) → IsUtf8 (take i text)
@@ -62,27 +62,27 @@ utf8-found d text i j (all, (scalars, spelt)) ((cs, encoded, none), at) =
     (cs, ((scalars-parts cs (d ∷ rest.0) (sym (ap all_scalars same) ∙ scalars)).0, encoded))
 
 -- the elements of a text that is split at its first delimiter
-pub elements-around : (d : ℕ) (text front behind : Text) → IsScalar d → IsUtf8 text → SplitsAroundMatch (FindsChar d) text front behind → elements d text ≡ front ∷ elements d behind
-elements-around d text front behind scalar utf8 (i, j, found, before, after, order, front_len, behind_len) =
+pub elements-around : (d : ℕ) (text front after : Text) → IsScalar d → IsUtf8 text → SplitsAroundMatch (FindsChar d) text front after → elements d text ≡ front ∷ elements d after
+elements-around d text front after scalar utf8 (i, j, found, is_front, is_after, order, front_len, after_len) =
     let splits : text ≡ take i text ++ (encode_utf8 d ++ drop j text) = sym (take-append-drop i text) ∙ ap (λ rest. take i text ++ rest) found.1.split in
-    ap (elements d) splits ∙ elements-first d (take i text) (drop j text) scalar (utf8-found d text i j utf8 found) found.0 ∙ ap₂ (λ x y. x ∷ elements d y) (sym before) (sym after)
+    ap (elements d) splits ∙ elements-first d (take i text) (drop j text) scalar (utf8-found d text i j utf8 found) found.0 ∙ ap₂ (λ x y. x ∷ elements d y) (sym is_front) (sym is_after)
 
 -- the text after the first delimiter is whole characters
-pub utf8-around : (d : ℕ) (text front behind : Text) → IsUtf8 text → SplitsAroundMatch (FindsChar d) text front behind → IsUtf8 behind
-utf8-around d text front behind utf8 (i, j, found, before, after, order, front_len, behind_len) = grind (arith, IsUtf8-drop)
+pub utf8-around : (d : ℕ) (text front after : Text) → IsUtf8 text → SplitsAroundMatch (FindsChar d) text front after → IsUtf8 after
+utf8-around d text front after utf8 (i, j, found, is_front, is_after, order, front_len, after_len) = grind (arith, IsUtf8-drop)
 
 -- ---- the next element
 
 -- a text from whose front a delimiter was stripped
-pub stripped : (d : ℕ) (text behind : Text) → StripsPrefix (FindsCharPrefix d) text behind → text ≡ encode_utf8 d ++ behind
-stripped d text behind (n, at, same, bytes) = at.split ∙ ap (λ t. encode_utf8 d ++ t) (sym same)
+pub stripped : (d : ℕ) (text after : Text) → StripsPrefix (FindsCharPrefix d) text after → text ≡ encode_utf8 d ++ after
+stripped d text after (n, at, same, bytes) = at.split ∙ ap (λ t. encode_utf8 d ++ t) (sym same)
 
 -- if a delimiter is stripped from the text after an element, the next element begins there
-pub follow-next : (d : ℕ) (es : List Text) (rest more next behind : Text) → Follow d es rest → rest ≡ encode_utf8 d ++ more → IsFirstElement d more next behind
-    → (others : List Text) × (es ≡ next ∷ others) × Follow d others behind
-follow-next d [] rest more next behind none splits first =
+pub follow-next : (d : ℕ) (es : List Text) (rest more next after : Text) → Follow d es rest → rest ≡ encode_utf8 d ++ more → IsFirstElement d more next after
+    → (others : List Text) × (es ≡ next ∷ others) × Follow d others after
+follow-next d [] rest more next after none splits first =
     absurd (omega (arith, encode_utf8_nonempty d, length-append (encode_utf8 d) more, ap length (sym splits ∙ none)))
-follow-next d (e ∷ es) rest more next behind (more', same, parts) splits first = grind (arith, append_cancel_left)
+follow-next d (e ∷ es) rest more next after (more', same, parts) splits first = grind (arith, append_cancel_left)
 
 -- ---- the rest of a first element
 
@@ -103,13 +103,13 @@ slice_split-rest p (x ∷ xs) ys zs parts same =
     rest q qs same = cc same
 
 -- if a text is cut inside its first element, the rest of that element is the first element of the text after the cut
-pub first-rest : (d : ℕ) (text front rest behind : Text) → IsUtf8 front → IsUtf8 rest → IsFirstElement d text (front ++ rest) behind → IsFirstElement d (rest ++ behind) rest behind
-first-rest d text front rest behind utf8 utf8' first = by_parts (slice_split (λ c. c == d) (chars text)) refl
+pub first-rest : (d : ℕ) (text front rest after : Text) → IsUtf8 front → IsUtf8 rest → IsFirstElement d text (front ++ rest) after → IsFirstElement d (rest ++ after) rest after
+first-rest d text front rest after utf8 utf8' first = by_parts (slice_split (λ c. c == d) (chars text)) refl
   where
-    all : chars text ≡ chars front ++ chars (rest ++ behind)
-    all = ap chars (sym first.joined ∙ append_assoc front rest behind) ∙ chars-append front (rest ++ behind) utf8
+    all : chars text ≡ chars front ++ chars (rest ++ after)
+    all = ap chars (sym first.joined ∙ append_assoc front rest after) ∙ chars-append front (rest ++ after) utf8
 
-    by_parts : (parts : List (List ℕ)) → slice_split (λ c. c == d) (chars text) ≡ parts → IsFirstElement d (rest ++ behind) rest behind
+    by_parts : (parts : List (List ℕ)) → slice_split (λ c. c == d) (chars text) ≡ parts → IsFirstElement d (rest ++ after) rest after
     by_parts [] none = absurd (omega (arith, ap length none, some_parts (λ c. c == d) (chars text)))
     by_parts (q ∷ qs) some =
         let both : encode_utf8_all q ∷ map encode_utf8_all qs ≡ (front ++ rest) ∷ first.others = sym (ap (map encode_utf8_all) some) ∙ first.elements_are in
@@ -117,20 +117,20 @@ first-rest d text front rest behind utf8 utf8' first = by_parts (slice_split (λ
         let others : map encode_utf8_all qs ≡ first.others = cc both in
         let spells : encode_utf8_all (chars front ++ chars rest) ≡ front ++ rest = encodes-append (chars front) (chars rest) ∙ ap₂ (λ x y. x ++ y) (encodes-chars front utf8) (encodes-chars rest utf8') in
         let same : q ≡ chars front ++ chars rest = encodes_same q (chars front ++ chars rest) (spelt ∙ sym spells) in
-        let parts : slice_split (λ c. c == d) (chars (rest ++ behind)) ≡ chars rest ∷ qs =
-        slice_split-rest (λ c. c == d) (chars front) (chars (rest ++ behind)) (chars rest) qs (ap (slice_split (λ c. c == d)) (sym all) ∙ some ∙ ap (λ x. x ∷ qs) same) in
-        record { others = first.others; elements_are = ap (map encode_utf8_all) parts ∙ ap₂ (λ x y. x ∷ y) (encodes-chars rest utf8') others; follow = first.follow; joined = refl; whole_first = utf8'; whole_behind = first.whole_behind }
+        let parts : slice_split (λ c. c == d) (chars (rest ++ after)) ≡ chars rest ∷ qs =
+        slice_split-rest (λ c. c == d) (chars front) (chars (rest ++ after)) (chars rest) qs (ap (slice_split (λ c. c == d)) (sym all) ∙ some ∙ ap (λ x. x ∷ qs) same) in
+        record { others = first.others; elements_are = ap (map encode_utf8_all) parts ∙ ap₂ (λ x y. x ∷ y) (encodes-chars rest utf8') others; follow = first.follow; joined = refl; whole_first = utf8'; whole_after = first.whole_after }
 
 -- a text whose first element isn't empty doesn't begin with d
-pub begins_otherwise-first : (d : ℕ) (text first behind : Text) → IsUtf8 text → IsFirstElement d text first behind → 0 < length first → begins_with d text ≡ false
-begins_otherwise-first d text first behind utf8 is some = grind (arith, begins_otherwise-unless, slice_split-cons_yes)
+pub begins_otherwise-first : (d : ℕ) (text first after : Text) → IsUtf8 text → IsFirstElement d text first after → 0 < length first → begins_with d text ≡ false
+begins_otherwise-first d text first after utf8 is some = grind (arith, begins_otherwise-unless, slice_split-cons_yes)
 
 -- the first element and the text after it, by the position between them
-pub first-at : (d : ℕ) (text first behind : Text) → IsFirstElement d text first behind → IsCharBoundary text (length first) × IsFirstElement d text (take (length first) text) (drop (length first) text)
-first-at d text first behind is =
-    let front : take (length first) text ≡ first = ap (take (length first)) (sym is.joined) ∙ take_at first behind (length first) refl in
-    let back : drop (length first) text ≡ behind = ap (drop (length first)) (sym is.joined) ∙ drop_at first behind (length first) refl in
-    (IsCharBoundary-at_seam text first behind (sym is.joined) is.whole_behind, rw (front, back) is)
+pub first-at : (d : ℕ) (text first after : Text) → IsFirstElement d text first after → IsCharBoundary text (length first) × IsFirstElement d text (take (length first) text) (drop (length first) text)
+first-at d text first after is =
+    let front : take (length first) text ≡ first = ap (take (length first)) (sym is.joined) ∙ take_at first after (length first) refl in
+    let back : drop (length first) text ≡ after = ap (drop (length first)) (sym is.joined) ∙ drop_at first after (length first) refl in
+    (IsCharBoundary-at_seam text first after (sym is.joined) is.whole_after, rw (front, back) is)
 
 -- after a position inside the first element, the rest of this element is the first element
 pub first-inside : (d : ℕ) (text : Text) (first end : ℕ) → IsUtf8 text → IsFirstElement d text (take first text) (drop first text) → IsCharBoundary text first → IsCharBoundary text end → end < first
@@ -143,12 +143,12 @@ first-inside d text first end utf8 is place cut inside =
     let joined : rest ++ back ≡ drop end text = take-append-drop (first - end) (drop end text) in
     let all : (take end text ++ rest) ++ back ≡ (take end text ++ rest) ++ drop first text =
     append_assoc (take end text) rest back ∙ ap (λ t. take end text ++ t) joined ∙ take-append-drop end text ∙ sym (take-append-drop first text) ∙ ap (λ t. t ++ drop first text) front in
-    let behind : back ≡ drop first text = append_cancel_left (take end text ++ rest) back (drop first text) all in
+    let after : back ≡ drop first text = append_cancel_left (take end text ++ rest) back (drop first text) all in
     let long : length rest ≡ first - end = length-take-le (first - end) (drop end text) (let whole = length-drop end text in let below = place.0 in omega arith) in
     let whole_rest : IsUtf8 rest = IsUtf8-between text end first utf8 (omega arith) cut place in
     let element : IsFirstElement d (rest ++ drop first text) rest (drop first text) = first-rest d text (take end text) rest (drop first text) (IsUtf8-take text end utf8 cut) whole_rest (rw front at is) in
-    let here : IsFirstElement d (drop end text) rest back = subst (λ b. IsFirstElement d (drop end text) rest b) (sym behind) (subst (λ t. IsFirstElement d t rest (drop first text)) (ap (λ b. rest ++ b) (sym behind) ∙ joined) element) in
-    let boundary = IsCharBoundary-at_seam (drop end text) rest back (sym joined) here.whole_behind in
+    let here : IsFirstElement d (drop end text) rest back = subst (λ b. IsFirstElement d (drop end text) rest b) (sym after) (subst (λ t. IsFirstElement d t rest (drop first text)) (ap (λ b. rest ++ b) (sym after) ∙ joined) element) in
+    let boundary = IsCharBoundary-at_seam (drop end text) rest back (sym joined) here.whole_after in
     (subst (IsCharBoundary (drop end text)) long boundary, here, begins_otherwise-first d (drop end text) rest back (IsUtf8-drop text end utf8 cut) here (omega (arith, long)))
 
 -- ---- the end of a line, by its first element and the elements after it
@@ -165,11 +165,11 @@ module _ (w d filled : ℕ) (next : Text) (others : List Text) (free : filled �
   taken-more room = grind (arith, cond-false, not_full, nat_tests)
 
 -- a line ends within its first element if that is wider than the line
-pub line_end-wide : (w d : ℕ) (text first behind : Text) → IsFirstElement d text first behind → nat_lt w (measure first) ≡ true → line_end w d text ≡ length (head_or_first w first)
+pub line_end-wide : (w d : ℕ) (text first after : Text) → IsFirstElement d text first after → nat_lt w (measure first) ≡ true → line_end w d text ≡ length (head_or_first w first)
 unfolding line_end
-line_end-wide w d text first behind is wide = grind (arith, cond-true)
+line_end-wide w d text first after is wide = grind (arith, cond-true)
 
 -- any other line ends by the elements after its first one
-pub line_end-narrow : (w d : ℕ) (text first behind : Text) (is : IsFirstElement d text first behind) → nat_lt w (measure first) ≡ false → line_end w d text ≡ length first + bytes_taken w d (measure first) is.others
+pub line_end-narrow : (w d : ℕ) (text first after : Text) (is : IsFirstElement d text first after) → nat_lt w (measure first) ≡ false → line_end w d text ≡ length first + bytes_taken w d (measure first) is.others
 unfolding line_end
-line_end-narrow w d text first behind is narrow = grind (arith, cond-false)
+line_end-narrow w d text first after is narrow = grind (arith, cond-false)

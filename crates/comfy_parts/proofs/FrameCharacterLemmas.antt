@@ -68,5 +68,5 @@ one_column_presets (style ∷ styles) each =
     All-cons IsOneColumnPreset style styles (one_column_characters _ first.0, one_column_characters _ second.0, one_column_characters _ third.0, one_column_characters _ third.1) (one_column_presets styles here.1)
 
 -- each character of each preset adds one terminal column
-pub presets_have_columns_of_one : All IsOneColumnPreset presets_all
-presets_have_columns_of_one = one_column_presets presets_all frame_presets
+pub preset_characters_take_one_column : All IsOneColumnPreset presets_all
+preset_characters_take_one_column = one_column_presets presets_all frame_presets

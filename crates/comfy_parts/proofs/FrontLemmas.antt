@@ -27,9 +27,9 @@ drop-next (suc n) b rest some =
     ap (λ k. drop k rest) back
 
 -- the parts of a text with a sequence at its front
-pub parts-behind_sequence : (text : Text) → 0 < sequence_len text → parts text ≡ sequence_part (take (sequence_len text) text) ∷ parts (drop (sequence_len text) text)
-parts-behind_sequence [] some = absurd (omega (arith, some))
-parts-behind_sequence (b ∷ rest) some =
+pub parts-after_sequence : (text : Text) → 0 < sequence_len text → parts text ≡ sequence_part (take (sequence_len text) text) ∷ parts (drop (sequence_len text) text)
+parts-after_sequence [] some = absurd (omega (arith, some))
+parts-after_sequence (b ∷ rest) some =
     let n = sequence_len (b ∷ rest) in
     let test : nat_lt 0 n ≡ true = grind (arith, nat_tests, some) in
     ap (λ t. (if t then record { is_sequence = true; bytes = take n (b ∷ rest) } else record { is_sequence = false; bytes = take 1 (b ∷ rest) }) ∷ parts_past (n - 1) rest) test

@@ -32,8 +32,8 @@ pub record IsFittingLine (w : ℕ) (line : Text) : Type 0 where
 
 record HasFirst (d : ℕ) (text : Text) : Type 0 where
   first : Text
-  behind : Text
-  is : IsFirstElement d text first behind
+  after : Text
+  is : IsFirstElement d text first after
 
 -- a first part is followed by a delimiter and the text of the later parts, or by nothing
 follow-parts : (d : ℕ) (parts : List (List ℕ)) (rest : List ℕ) → all_scalars rest ≡ true → AreNext (λ c. c == d) parts rest → Follow d (map encode_utf8_all parts) (encode_utf8_all rest)
@@ -52,18 +52,18 @@ first_exists d text utf8 =
     let parts = scalars-parts has.part has.is.rest (sym (ap all_scalars has.is.splits) ∙ scalars-chars text utf8) in
     record {
       first = encode_utf8_all has.part;
-      behind = encode_utf8_all has.is.rest;
-      is = record { others = map encode_utf8_all has.parts; elements_are = ap (map encode_utf8_all) has.are; follow = follow-parts d has.parts has.is.rest parts.1 has.is.next; joined = sym (encodes-append has.part has.is.rest) ∙ ap encode_utf8_all (sym has.is.splits) ∙ encodes-chars text utf8; whole_first = (has.part, (parts.0, refl)); whole_behind = (has.is.rest, (parts.1, refl)) };
+      after = encode_utf8_all has.is.rest;
+      is = record { others = map encode_utf8_all has.parts; elements_are = ap (map encode_utf8_all) has.are; follow = follow-parts d has.parts has.is.rest parts.1 has.is.next; joined = sym (encodes-append has.part has.is.rest) ∙ ap encode_utf8_all (sym has.is.splits) ∙ encodes-chars text utf8; whole_first = (has.part, (parts.0, refl)); whole_after = (has.is.rest, (parts.1, refl)) };
     }
 
 -- the elements after an element depend only on the text there
-follow-same : (d : ℕ) (xs ys : List Text) (behind : Text) → Follow d xs behind → Follow d ys behind → xs ≡ ys
-follow-same d [] [] behind none none' = refl
-follow-same d [] (y ∷ ys) behind none (more, splits, parts) =
+follow-same : (d : ℕ) (xs ys : List Text) (after : Text) → Follow d xs after → Follow d ys after → xs ≡ ys
+follow-same d [] [] after none none' = refl
+follow-same d [] (y ∷ ys) after none (more, splits, parts) =
     absurd (omega (arith, encode_utf8_nonempty d, length-append (encode_utf8 d) more, ap length (sym splits ∙ none)))
-follow-same d (x ∷ xs) [] behind (more, splits, parts) none =
+follow-same d (x ∷ xs) [] after (more, splits, parts) none =
     absurd (omega (arith, encode_utf8_nonempty d, length-append (encode_utf8 d) more, ap length (sym splits ∙ none)))
-follow-same d (x ∷ xs) (y ∷ ys) behind (more, splits, parts) (more', splits', parts') = grind (arith, append_cancel_left)
+follow-same d (x ∷ xs) (y ∷ ys) after (more, splits, parts) (more', splits', parts') = grind (arith, append_cancel_left)
 
 -- ---- words that can be cut well
 
@@ -90,17 +90,17 @@ module _ (w d : ℕ) (Word : Text → Type 0) (breaks : BreaksWell w Word) (scal
   words-nil : Words []
   words-nil = subst (All Word) (sym (elements-none d [] IsUtf8-nil ([], refl, tt))) (All-cons Word [] [] breaks.empty (All-nil Word))
 
-  words-behind : (es : List Text) (behind : Text) → Follow d es behind → All Word es → Words behind
-  words-behind [] behind none words = subst Words (sym none) words-nil
-  words-behind (e ∷ es) behind (more, splits, parts) words =
+  words-after : (es : List Text) (after : Text) → Follow d es after → All Word es → Words after
+  words-after [] after none words = subst Words (sym none) words-nil
+  words-after (e ∷ es) after (more, splits, parts) words =
       subst Words (sym splits)
       (subst (All Word) (sym (elements-first d [] more scalar IsUtf8-nil ([], refl, tt) ∙ ap (λ xs. [] ∷ xs) parts)) (All-cons Word [] (e ∷ es) breaks.empty words))
 
   -- the n bytes that a line takes after its first elements, which measure `filled`, fit, and only such words are left
-  record IsTaken (filled n : ℕ) (behind : Text) : Type 0 where
+  record IsTaken (filled n : ℕ) (after : Text) : Type 0 where
     taken : Text
     rest : Text
-    splits : behind ≡ taken ++ rest
+    splits : after ≡ taken ++ rest
     bytes : length taken ≡ n
     whole_taken : IsUtf8 taken
     whole_rest : IsUtf8 rest
@@ -108,29 +108,29 @@ module _ (w d : ℕ) (Word : Text → Type 0) (breaks : BreaksWell w Word) (scal
     keeps : Words rest
 
   -- a line that takes nothing more
-  takes-none : (filled : ℕ) (behind : Text) → filled ≤ w → IsUtf8 behind → Words behind → IsTaken filled 0 behind
-  takes-none filled behind room whole words =
-      record { taken = []; rest = behind; splits = refl; bytes = refl; whole_taken = IsUtf8-nil; whole_rest = whole; fits = λ front utf8 same. subst (λ t. measure t ≤ w) (sym (append-nil front)) (omega (arith, same, room)); keeps = words }
+  takes-none : (filled : ℕ) (after : Text) → filled ≤ w → IsUtf8 after → Words after → IsTaken filled 0 after
+  takes-none filled after room whole words =
+      record { taken = []; rest = after; splits = refl; bytes = refl; whole_taken = IsUtf8-nil; whole_rest = whole; fits = λ front utf8 same. subst (λ t. measure t ≤ w) (sym (append-nil front)) (omega (arith, same, room)); keeps = words }
 
   -- a delimiter and a word measure one terminal column more than the word
-  behind-delimiter : (front word : Text) → IsUtf8 front → measure (front ++ (encode_utf8 d ++ word)) ≡ measure front + (1 + measure word)
-  behind-delimiter front word utf8 = adds front word utf8
+  after-delimiter : (front word : Text) → IsUtf8 front → measure (front ++ (encode_utf8 d ++ word)) ≡ measure front + (1 + measure word)
+  after-delimiter front word utf8 = adds front word utf8
 
-  takes : (filled : ℕ) (es : List Text) (behind : Text) → Follow d es behind → IsUtf8 behind → All Word es → filled ≤ w → IsTaken filled (bytes_taken w d filled es) behind
-  takes filled [] behind none whole words room = takes-none filled behind room whole (words-behind [] behind none words)
-  takes filled (next ∷ others) behind (more, splits, parts) whole words room =
+  takes : (filled : ℕ) (es : List Text) (after : Text) → Follow d es after → IsUtf8 after → All Word es → filled ≤ w → IsTaken filled (bytes_taken w d filled es) after
+  takes filled [] after none whole words room = takes-none filled after room whole (words-after [] after none words)
+  takes filled (next ∷ others) after (more, splits, parts) whole words room =
       cond_both (nat_lt (w - 2) filled) _ _ Takes (λ _. none)
       (λ _. cond_both (nat_lt w (filled + 1 + measure next)) _ _ Takes (λ _. cond_both (nat_lt w (measure next) && nat_le (filled + 4) w) _ _ Takes part (λ _. none))
-      (λ test. whole_next test (λ fits. takes filled' others first.behind follow is.whole_behind (All-tail Word next others words) fits)))
+      (λ test. whole_next test (λ fits. takes filled' others first.after follow is.whole_after (All-tail Word next others words) fits)))
     where
       Takes : ℕ → Type 0
-      Takes n = IsTaken filled n behind
+      Takes n = IsTaken filled n after
 
       filled' : ℕ
       filled' = filled + measure next + measure (encode_utf8 d)
 
       whole_more : IsUtf8 more
-      whole_more = IsUtf8-after behind (encode_utf8 d) more whole (one_character d scalar).0 splits
+      whole_more = IsUtf8-after after (encode_utf8 d) more whole (one_character d scalar).0 splits
 
       first : HasFirst d more
       first = first_exists d more whole_more
@@ -144,38 +144,38 @@ module _ (w d : ℕ) (Word : Text → Type 0) (breaks : BreaksWell w Word) (scal
       same_others : first.is.others ≡ others
       same_others = cc both
 
-      is : IsFirstElement d more next first.behind
-      is = subst (λ t. IsFirstElement d more t first.behind) same_first first.is
+      is : IsFirstElement d more next first.after
+      is = subst (λ t. IsFirstElement d more t first.after) same_first first.is
 
-      follow : Follow d others first.behind
-      follow = subst (λ es. Follow d es first.behind) same_others first.is.follow
+      follow : Follow d others first.after
+      follow = subst (λ es. Follow d es first.after) same_others first.is.follow
 
-      none : IsTaken filled 0 behind
-      none = takes-none filled behind room whole (words-behind (next ∷ others) behind (more, splits, parts) words)
+      none : IsTaken filled 0 after
+      none = takes-none filled after room whole (words-after (next ∷ others) after (more, splits, parts) words)
 
       -- the line takes a part of the next element
-      part : (nat_lt w (measure next) && nat_le (filled + 4) w) ≡ true → IsTaken filled (length (encode_utf8 d) + length (head (w - filled - 1) next)) behind
+      part : (nat_lt w (measure next) && nat_le (filled + 4) w) ≡ true → IsTaken filled (length (encode_utf8 d) + length (head (w - filled - 1) next)) after
       part takes =
           let tests = and_parts (nat_lt w (measure next)) (nat_le (filled + 4) w) takes in
           let wide : w < measure next = grind (arith, nat_tests, tests.0) in
           let free : filled + 4 ≤ w = grind (arith, nat_tests, tests.1) in
           let cut = breaks.part (w - filled - 1) next (All-head Word next others words) is.whole_first wide in
           let part = head (w - filled - 1) next in
-          let after : IsFirstElement d (cut.rest ++ first.behind) cut.rest first.behind = first-rest d more part cut.rest first.behind cut.whole_front cut.whole_rest (subst (λ t. IsFirstElement d more t first.behind) cut.splits is) in
+          let after : IsFirstElement d (cut.rest ++ first.after) cut.rest first.after = first-rest d more part cut.rest first.after cut.whole_front cut.whole_rest (subst (λ t. IsFirstElement d more t first.after) cut.splits is) in
           record {
             taken = encode_utf8 d ++ part;
-            rest = cut.rest ++ first.behind;
-            splits = splits ∙ ap (λ t. encode_utf8 d ++ t) (sym is.joined ∙ ap (λ t. t ++ first.behind) cut.splits ∙ append_assoc part cut.rest first.behind) ∙ sym (append_assoc (encode_utf8 d) part (cut.rest ++ first.behind));
+            rest = cut.rest ++ first.after;
+            splits = splits ∙ ap (λ t. encode_utf8 d ++ t) (sym is.joined ∙ ap (λ t. t ++ first.after) cut.splits ∙ append_assoc part cut.rest first.after) ∙ sym (append_assoc (encode_utf8 d) part (cut.rest ++ first.after));
             bytes = length-append (encode_utf8 d) part;
             whole_taken = IsUtf8-append (encode_utf8 d) part (one_character d scalar).0 cut.whole_front;
-            whole_rest = IsUtf8-append cut.rest first.behind cut.whole_rest is.whole_behind;
-            fits = λ front utf8 same. let all = behind-delimiter front part utf8 in let fits = cut.fits in omega (arith, all, fits, same, free);
-            keeps = subst (All Word) (sym after.elements_are) (All-cons Word cut.rest after.others cut.keeps (subst (All Word) (follow-same d others after.others first.behind follow after.follow) (All-tail Word next others words)));
+            whole_rest = IsUtf8-append cut.rest first.after cut.whole_rest is.whole_after;
+            fits = λ front utf8 same. let all = after-delimiter front part utf8 in let fits = cut.fits in omega (arith, all, fits, same, free);
+            keeps = subst (All Word) (sym after.elements_are) (All-cons Word cut.rest after.others cut.keeps (subst (All Word) (follow-same d others after.others first.after follow after.follow) (All-tail Word next others words)));
           }
 
       -- the line takes the whole next element, and perhaps more
-      whole_next : nat_lt w (filled + 1 + measure next) ≡ false → (filled' ≤ w → IsTaken filled' (bytes_taken w d filled' others) first.behind)
-          → IsTaken filled (length (encode_utf8 d) + length next + bytes_taken w d filled' others) behind
+      whole_next : nat_lt w (filled + 1 + measure next) ≡ false → (filled' ≤ w → IsTaken filled' (bytes_taken w d filled' others) first.after)
+          → IsTaken filled (length (encode_utf8 d) + length next + bytes_taken w d filled' others) after
       whole_next test rest =
           let room' : filled + 1 + measure next ≤ w = grind (arith, nat_tests, test) in
           let place = one_column d adds in
@@ -188,7 +188,7 @@ module _ (w d : ℕ) (Word : Text → Type 0) (breaks : BreaksWell w Word) (scal
             whole_taken = IsUtf8-append (encode_utf8 d) (next ++ further.taken) (one_character d scalar).0 (IsUtf8-append next further.taken is.whole_first further.whole_taken);
             whole_rest = further.whole_rest;
             fits = λ front utf8 same.
-                let all = behind-delimiter front next utf8 in
+                let all = after-delimiter front next utf8 in
                 let whole_front = IsUtf8-append front (encode_utf8 d ++ next) utf8 (IsUtf8-append (encode_utf8 d) next (one_character d scalar).0 is.whole_first) in
                 subst (λ t. measure t ≤ w) (append_assoc front (encode_utf8 d ++ next) further.taken ∙ ap (λ t. front ++ t) (append_assoc (encode_utf8 d) next further.taken))
                 (further.fits (front ++ (encode_utf8 d ++ next)) whole_front (omega (arith, all, same, place)));
@@ -209,7 +209,7 @@ module _ (w d : ℕ) (Word : Text → Type 0) (breaks : BreaksWell w Word) (scal
       has : HasFirst d (line ++ tail)
       has = first_exists d (line ++ tail) utf8
 
-      is : IsFirstElement d (line ++ tail) has.first has.behind
+      is : IsFirstElement d (line ++ tail) has.first has.after
       is = has.is
 
       all : All Word (has.first ∷ is.others)
@@ -222,19 +222,19 @@ module _ (w d : ℕ) (Word : Text → Type 0) (breaks : BreaksWell w Word) (scal
       by_width true wide =
           let front = head_or_first w has.first in
           let cut = breaks.first has.first word is.whole_first (grind (arith, nat_tests, wide)) in
-          let splits : line ++ tail ≡ front ++ (cut.rest ++ has.behind) = sym is.joined ∙ ap (λ t. t ++ has.behind) cut.splits ∙ append_assoc front cut.rest has.behind in
-          let same = same_front line tail front (cut.rest ++ has.behind) splits (ends ∙ line_end-wide w d (line ++ tail) has.first has.behind is wide) in
-          let after : IsFirstElement d (cut.rest ++ has.behind) cut.rest has.behind = first-rest d (line ++ tail) front cut.rest has.behind cut.whole_front cut.whole_rest (subst (λ t. IsFirstElement d (line ++ tail) t has.behind) cut.splits is) in
+          let splits : line ++ tail ≡ front ++ (cut.rest ++ has.after) = sym is.joined ∙ ap (λ t. t ++ has.after) cut.splits ∙ append_assoc front cut.rest has.after in
+          let same = same_front line tail front (cut.rest ++ has.after) splits (ends ∙ line_end-wide w d (line ++ tail) has.first has.after is wide) in
+          let after : IsFirstElement d (cut.rest ++ has.after) cut.rest has.after = first-rest d (line ++ tail) front cut.rest has.after cut.whole_front cut.whole_rest (subst (λ t. IsFirstElement d (line ++ tail) t has.after) cut.splits is) in
           record {
             fits = subst (λ t. measure t ≤ w) (sym same.0) cut.fits;
-            whole = subst IsUtf8 (sym same.1) (IsUtf8-append cut.rest has.behind cut.whole_rest is.whole_behind);
-            keeps = subst Words (sym same.1) (subst (All Word) (sym after.elements_are) (All-cons Word cut.rest after.others cut.keeps (subst (All Word) (follow-same d is.others after.others has.behind is.follow after.follow) (All-tail Word has.first is.others all))));
+            whole = subst IsUtf8 (sym same.1) (IsUtf8-append cut.rest has.after cut.whole_rest is.whole_after);
+            keeps = subst Words (sym same.1) (subst (All Word) (sym after.elements_are) (All-cons Word cut.rest after.others cut.keeps (subst (All Word) (follow-same d is.others after.others has.after is.follow after.follow) (All-tail Word has.first is.others all))));
           }
       by_width false narrow =
           let room : measure has.first ≤ w = grind (arith, nat_tests, narrow) in
-          let further = takes (measure has.first) is.others has.behind is.follow is.whole_behind (All-tail Word has.first is.others all) room in
+          let further = takes (measure has.first) is.others has.after is.follow is.whole_after (All-tail Word has.first is.others all) room in
           let splits : line ++ tail ≡ (has.first ++ further.taken) ++ further.rest = sym is.joined ∙ ap (λ t. has.first ++ t) further.splits ∙ sym (append_assoc has.first further.taken further.rest) in
-          let bytes : length (has.first ++ further.taken) ≡ length line = length-append has.first further.taken ∙ ap (λ n. length has.first + n) further.bytes ∙ sym (ends ∙ line_end-narrow w d (line ++ tail) has.first has.behind is narrow) in
+          let bytes : length (has.first ++ further.taken) ≡ length line = length-append has.first further.taken ∙ ap (λ n. length has.first + n) further.bytes ∙ sym (ends ∙ line_end-narrow w d (line ++ tail) has.first has.after is narrow) in
           let same = same_front line tail (has.first ++ further.taken) further.rest splits (sym bytes) in
           record {
             fits = subst (λ t. measure t ≤ w) (sym same.0) (further.fits has.first is.whole_first refl);

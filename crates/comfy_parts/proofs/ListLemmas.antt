@@ -187,8 +187,8 @@ pub drop_next : {A : Type 0} (n : ℕ) (xs : List A) (b : A) (rest : List A) →
 drop_next n xs b rest is =
     let next : n + 1 ≡ suc n = omega arith in
     let both : slice_index_or xs n b ∷ drop (suc n) xs ≡ b ∷ rest = sym (drop-cons xs n b (omega (arith, length-drop n xs, ap length is))) ∙ is in
-    let behind : drop (suc n) xs ≡ rest = cc both in
-    ap (λ k. drop k xs) next ∙ behind
+    let after : drop (suc n) xs ≡ rest = cc both in
+    ap (λ k. drop k xs) next ∙ after
 
 -- the invariant of a loop that pushes images, after one more push
 pub pushed : {A B : Type 0} (f : A → B) (done : List A) (x : A) (more : List A) (later all : List B) → more ≡ done ++ x ∷ [] → map f done ++ (f x ∷ later) ≡ all → map f more ++ later ≡ all
@@ -282,11 +282,11 @@ same_map f (x ∷ xs) (y ∷ ys) each = grind (arith, same_map f xs ys each.1)
 
 -- one more repetition, at the end
 pub repeat_more : {A : Type 0} (n : ℕ) (xs : List A) → repeat (n + 1) xs ≡ repeat n xs ++ xs
-repeat_more n xs = ap (λ k. repeat k xs) (add-one n) ∙ behind n
+repeat_more n xs = ap (λ k. repeat k xs) (add-one n) ∙ after n
   where
-    behind : (n : ℕ) → repeat (suc n) xs ≡ repeat n xs ++ xs
-    behind zero = append-nil xs
-    behind (suc n) = ap (λ ys. xs ++ ys) (behind n) ∙ sym (append_assoc xs (repeat n xs) xs)
+    after : (n : ℕ) → repeat (suc n) xs ≡ repeat n xs ++ xs
+    after zero = append-nil xs
+    after (suc n) = ap (λ ys. xs ++ ys) (after n) ∙ sym (append_assoc xs (repeat n xs) xs)
 
 -- one more part at the end, after a separator unless it is the first
 pub join_by_push : {X A : Type 0} (f : X → List A) (separator : List A) (xs : List X) (x : X)

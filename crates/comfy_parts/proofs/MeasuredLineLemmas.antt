@@ -9,7 +9,7 @@ use Rattle.comfy_parts.proofs.FollowingLemmas.{first-at}
 use Rattle.comfy_parts.proofs.PrintableTextLemmas.{IsPrintableLine, wrapped-printable}
 use Rattle.comfy_parts.proofs.PrintableLemmas.{measure-printable}
 use Rattle.comfy_parts.proofs.WideEndLemmas.{exact-columns, first-is, none-wider}
-use Rattle.comfy_parts.specs.Following.{AreColumnsUpTo, IsAtLine, IsFirstElement, IsMeasured, IsMeasuredBehind, IsWideFrom}
+use Rattle.comfy_parts.specs.Following.{AreColumnsUpTo, IsAtLine, IsFirstElement, IsMeasured, IsMeasuredAtEnd, IsWideFrom}
 use Rattle.comfy_parts.specs.Laws.{IsPrintable}
 use Rattle.comfy_parts.specs.Text.{Text, begins_with, measure}
 use Rattle.comfy_parts.specs.Wrapping.{wrapped}
@@ -31,17 +31,17 @@ same_end whole front front' end end' one two same =
     sym (drop-append_seam front end) ∙ ap (drop (length front)) (sym one ∙ two) ∙ ap (λ n. drop n (front' ++ end')) fronts ∙ drop-append_seam front' end'
 
 -- the record of an element that was measured
-pub measured-at : (d : ℕ) (text front others next behind : Text) (columns : ℕ) → text ≡ front ++ others → IsFirstElement d others next behind → columns ≡ measure next
+pub measured-at : (d : ℕ) (text front others next after : Text) (columns : ℕ) → text ≡ front ++ others → IsFirstElement d others next after → columns ≡ measure next
     → IsMeasured d text (length others) (length next) columns
-measured-at d text front others next behind columns splits element measured =
-    let at = first-at d others next behind element in
-    record { front = front; others = others; splits = splits; left_is = refl; boundary = at.0; element = at.1; columns_are = measured ∙ ap measure (sym (first-is d others next behind element)) }
+measured-at d text front others next after columns splits element measured =
+    let at = first-at d others next after element in
+    record { front = front; others = others; splits = splits; left_is = refl; boundary = at.0; element = at.1; columns_are = measured ∙ ap measure (sym (first-is d others next after element)) }
 
 -- the record holds for a text with more at its front
-pub measured-past : (d : ℕ) (text word behind : Text) (m : Option Measured) → text ≡ word ++ behind → IfSome m (λ m. IsMeasured d behind m.left m.first m.columns)
+pub measured-past : (d : ℕ) (text word after : Text) (m : Option Measured) → text ≡ word ++ after → IfSome m (λ m. IsMeasured d after m.left m.first m.columns)
     → IfSome m (λ m. IsMeasured d text m.left m.first m.columns)
-measured-past d text word behind None splits is = is
-measured-past d text word behind (Some m) splits is = record {
+measured-past d text word after None splits is = is
+measured-past d text word after (Some m) splits is = record {
   front = word ++ is.front;
   others = is.others;
   splits = splits ∙ ap (λ (t : Text). word ++ t) is.splits ∙ sym (append_assoc word is.front is.others);
@@ -52,17 +52,17 @@ measured-past d text word behind (Some m) splits is = record {
 }
 
 -- the record holds for a text with less at its front
-pub measured-behind : (d : ℕ) (whole before text : Text) (m : Option Measured) → whole ≡ before ++ text → IfSome m (λ m. IsMeasured d whole m.left m.first m.columns)
-    → IfSome m (λ m. IsMeasuredBehind d text m.left m.first m.columns)
-measured-behind d whole before text None splits is = is
-measured-behind d whole before text (Some m) splits is = (whole, before, splits, is)
+pub measured-after : (d : ℕ) (whole before text : Text) (m : Option Measured) → whole ≡ before ++ text → IfSome m (λ m. IsMeasured d whole m.left m.first m.columns)
+    → IfSome m (λ m. IsMeasuredAtEnd d text m.left m.first m.columns)
+measured-after d whole before text None splits is = is
+measured-after d whole before text (Some m) splits is = (whole, before, splits, is)
 
 -- a line that begins with an element of known width
-pub at-first : (w d : ℕ) (text word behind : Text) (columns shown : ℕ) → w ≤ 65535 → IsUtf8 text → begins_with d text ≡ false → IsFirstElement d text word behind
+pub at-first : (w d : ℕ) (text word after : Text) (columns shown : ℕ) → w ≤ 65535 → IsUtf8 text → begins_with d text ≡ false → IsFirstElement d text word after
     → AreColumnsUpTo w columns word → IsWideFrom w shown word → IsAtLine w d text (length word) columns shown
-at-first w d text word behind columns shown narrow utf8 otherwise is columns_are wide_from =
-    let at = first-at d text word behind is in
-    let same = sym (first-is d text word behind is) in
+at-first w d text word after columns shown narrow utf8 otherwise is columns_are wide_from =
+    let at = first-at d text word after is in
+    let same = sym (first-is d text word after is) in
     record {
       narrow = narrow;
       whole = utf8;
@@ -75,7 +75,7 @@ at-first w d text word behind columns shown narrow utf8 otherwise is columns_are
 
 -- a line that begins with an element that was measured
 pub at-measured : (w d : ℕ) (text start rest : Text) (left first columns : ℕ) → w ≤ 65535 → IsUtf8 rest → begins_with d rest ≡ false → text ≡ start ++ rest
-    → IsMeasuredBehind d text left first columns → left ≡ length rest → IsAtLine w d rest first columns (first + 1)
+    → IsMeasuredAtEnd d text left first columns → left ≡ length rest → IsAtLine w d rest first columns (first + 1)
 at-measured w d text start rest left first columns narrow utf8 otherwise begun (whole, before, splits, is) left_is =
     let same : is.others ≡ rest =
     same_end whole is.front (before ++ start) is.others rest is.splits (splits ∙ ap (λ (t : Text). before ++ t) begun ∙ sym (append_assoc before start rest)) (is.left_is ∙ left_is) in

@@ -14,12 +14,12 @@ use Rattle.comfy_parts.specs.VisibleText.{Part, closed, is_parameter, open_after
 -- ---- texts that no other text continues
 
 -- the parts of the text are the same before any text
-pub record StandsAlone (text : Text) : Type 0 where
+pub record IsScannedAlone (text : Text) : Type 0 where
   pub alone : (rest : Text) → parts (text ++ rest) ≡ parts text ++ parts rest
 
 -- the parts of a text don't depend on the text after it if they are scanned before any text
-stands-scanned : (text : Text) → ((rest : Text) → AreScanned (parts text) rest) → StandsAlone text
-stands-scanned text scanned =
+alone-scanned : (text : Text) → ((rest : Text) → AreScanned (parts text) rest) → IsScannedAlone text
+alone-scanned text scanned =
     record { alone = λ rest. ap (λ t. parts (t ++ rest)) (sym (scan text).bytes) ∙ parts-scanned (parts text) rest (scanned rest) }
 
 -- scanned parts without a visible ESC are scanned before any text
@@ -32,24 +32,24 @@ scanned-clear (p ∷ ps) rest other (inr part, more) clear =
     (inr (record { byte = part.byte; free = no_sequence part.byte (bytes_of ps ++ other) here.0; is = part.is }), scanned-clear ps rest other more here.1)
 
 -- the parts of a text without a visible ESC don't depend on the text after it
-pub stands-visible : (text : Text) → HasNo 0x1B (visible_text text) → StandsAlone text
-stands-visible text clear = stands-scanned text (λ rest. scanned-clear (parts text) [] rest (scan text).scanned clear)
+pub alone-visible : (text : Text) → HasNo 0x1B (visible_text text) → IsScannedAlone text
+alone-visible text clear = alone-scanned text (λ rest. scanned-clear (parts text) [] rest (scan text).scanned clear)
 
 -- the parts of a text without ESC don't depend on the text after it, nor do those of its closed text
-pub stands-clear : (text : Text) → HasNo 0x1B text → StandsAlone text
-stands-clear text clear = stands-visible text (HasNo-visible 0x1B text clear)
+pub alone-clear : (text : Text) → HasNo 0x1B text → IsScannedAlone text
+alone-clear text clear = alone-visible text (HasNo-visible 0x1B text clear)
 
-pub stands-closed : (text : Text) → HasNo 0x1B text → StandsAlone (closed text)
-stands-closed text clear = stands-visible (closed text) (subst (HasNo 0x1B) (sym (visible-closed text)) (HasNo-visible 0x1B text clear))
+pub alone-closed : (text : Text) → HasNo 0x1B text → IsScannedAlone (closed text)
+alone-closed text clear = alone-visible (closed text) (subst (HasNo 0x1B) (sym (visible-closed text)) (HasNo-visible 0x1B text clear))
 
 -- the parts of a concatenation of two such texts don't depend on the text after it
-pub stands-append : (xs ys : Text) → StandsAlone xs → StandsAlone ys → StandsAlone (xs ++ ys)
-stands-append xs ys front back =
+pub alone-append : (xs ys : Text) → IsScannedAlone xs → IsScannedAlone ys → IsScannedAlone (xs ++ ys)
+alone-append xs ys front back =
     record { alone = λ rest. ap parts (append_assoc xs ys rest) ∙ front.alone (ys ++ rest) ∙ ap (λ ps. parts xs ++ ps) (back.alone rest) ∙ sym (append_assoc (parts xs) (parts ys) (parts rest)) ∙ ap (λ ps. ps ++ parts rest) (sym (front.alone ys)) }
 
 -- the parts of a sequence don't depend on the text after it
-pub stands-sequence : (code : Text) → list_all is_parameter code ≡ true → StandsAlone (0x1B ∷ 0x5B ∷ (code ++ (0x6D ∷ [])))
-stands-sequence code all =
+pub alone-sequence : (code : Text) → list_all is_parameter code ≡ true → IsScannedAlone (0x1B ∷ 0x5B ∷ (code ++ (0x6D ∷ [])))
+alone-sequence code all =
     record { alone = λ rest. ap (λ t. parts (0x1B ∷ 0x5B ∷ t)) (append_assoc code (0x6D ∷ []) rest) ∙ parts-sequence code rest all ∙ ap (λ ps. ps ++ parts rest) (sym (parts-sequence code [] all)) }
 
 -- ---- texts that open no sequence
@@ -63,7 +63,7 @@ pub none-after : (text : Text) → OpensNone text → open_after (parts text) �
 none-after text own = ap (λ t. open_after (parts t)) (sym (append-nil text)) ∙ own.none []
 
 -- a text opens no sequence if none is open after it, and its parts don't depend on the text after it
-pub opens-alone : (text : Text) → open_after (parts text) ≡ [] → StandsAlone text → OpensNone text
+pub opens-alone : (text : Text) → open_after (parts text) ≡ [] → IsScannedAlone text → OpensNone text
 opens-alone text ends own =
     record { none = λ rest. ap open_after (own.alone rest) ∙ opened-append [] (parts text) (parts rest) ∙ ap (λ ss. opened ss (parts rest)) ends }
 

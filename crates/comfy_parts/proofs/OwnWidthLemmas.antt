@@ -102,7 +102,7 @@ pub record BeginsWide (text : Text) : Type 0 where
   pub columns : own_width first ≡ Some 2
   pub wide : (is_in_range 0x4E00 0x9FFF first || (is_in_range 0xB000 0xCFFF first || false)) ≡ true
   pub boundary : IsCharBoundary text 3
-  pub behind : drop 3 text ≡ later
+  pub after : drop 3 text ≡ later
 
 wide_first : (c : ℕ) (later : Text) → begins_wide (encode_utf8 c ++ later) ≡ true → (length (encode_utf8 c) ≡ 3) × ((is_in_range 0x4E00 0x9FFF c || (is_in_range 0xB000 0xCFFF c || false)) ≡ true)
 unfolding encode
@@ -132,7 +132,7 @@ begins-wide text utf8 some is = by_characters utf8.0 utf8.1.1
           columns = sym (wide-two c wide.1);
           wide = wide.1;
           boundary = subst (IsCharBoundary text) (zero-add (len_utf8 c) ∙ size) (IsCharBoundary-past_char text (encode_utf8_all cs) 0 c (omega arith) utf8 splits);
-          behind = ap (λ n. drop n text) (sym (zero-add (len_utf8 c) ∙ size)) ∙ drop_past_char text (encode_utf8_all cs) 0 c splits;
+          after = ap (λ n. drop n text) (sym (zero-add (len_utf8 c) ∙ size)) ∙ drop_past_char text (encode_utf8_all cs) 0 c splits;
         }
 
 -- ---- characters in a text

@@ -23,22 +23,22 @@ no_delimiter d front printable none =
     (front, ap encode_utf8_all (sym (chars-printable front printable)) ∙ encodes-chars front (IsUtf8-printable front printable), none_passes (λ c. c == d) front none)
 
 -- a prefix without a delimiter is the first element, if a delimiter or nothing follows it
-pub first-clear : (d : ℕ) (text front behind : Text) → IsScalar d → text ≡ front ++ behind → IsUtf8 front → IsUtf8 behind → NoCharPasses (λ c. c == d) front → EndsElement d behind → IsFirstElement d text front behind
-first-clear d text front behind scalar splits utf8 whole none (inl empty) =
+pub first-clear : (d : ℕ) (text front after : Text) → IsScalar d → text ≡ front ++ after → IsUtf8 front → IsUtf8 after → NoCharPasses (λ c. c == d) front → EndsElement d after → IsFirstElement d text front after
+first-clear d text front after scalar splits utf8 whole none (inl empty) =
     let same : text ≡ front = splits ∙ ap (λ t. front ++ t) empty ∙ append-nil front in
     subst (λ (t : Text). IsFirstElement d text front t) (sym empty)
     (subst (λ (t : Text). IsFirstElement d t front []) (sym same) (first-none d front utf8 none))
-first-clear d text front behind scalar splits utf8 whole none (inr (more, follows)) =
+first-clear d text front after scalar splits utf8 whole none (inr (more, follows)) =
     record {
       others = elements d more;
       elements_are = ap (elements d) (splits ∙ ap (λ t. front ++ t) follows) ∙ elements-first d front more scalar utf8 none;
-      follow = follow-delimiter d more behind follows;
+      follow = follow-delimiter d more after follows;
       joined = sym splits;
       whole_first = utf8;
-      whole_behind = whole;
+      whole_after = whole;
     }
 
-pub first-printable : (d : ℕ) (text front behind : Text) → IsScalar d → IsUtf8 text → text ≡ front ++ behind → IsUtf8 behind → is_printable_ascii front ≡ true → list_any (λ b. b == d) front ≡ false
-    → EndsElement d behind → IsFirstElement d text front behind
-first-printable d text front behind scalar utf8 splits whole printable none ends =
-    first-clear d text front behind scalar splits (IsUtf8-printable front printable) whole (no_delimiter d front printable none) ends
+pub first-printable : (d : ℕ) (text front after : Text) → IsScalar d → IsUtf8 text → text ≡ front ++ after → IsUtf8 after → is_printable_ascii front ≡ true → list_any (λ b. b == d) front ≡ false
+    → EndsElement d after → IsFirstElement d text front after
+first-printable d text front after scalar utf8 splits whole printable none ends =
+    first-clear d text front after scalar splits (IsUtf8-printable front printable) whole (no_delimiter d front printable none) ends

@@ -91,9 +91,9 @@ scan-sequence code rest all more =
 scan-visible : (b : ℕ) (rest : Text) → begins_with_sequence (b ∷ rest) ≡ false → IsScan rest → IsScan (b ∷ rest)
 scan-visible b rest free more =
     let first = parts-visible b rest free in
-    let behind : rest ≡ bytes_of (parts rest) ++ [] = sym more.bytes ∙ sym (append-nil (bytes_of (parts rest))) in
+    let after : rest ≡ bytes_of (parts rest) ++ [] = sym more.bytes ∙ sym (append-nil (bytes_of (parts rest))) in
     record {
-      scanned = subst (λ ps. AreScanned ps []) (sym first) (inr (record { byte = b; free = ap (λ xs. begins_with_sequence (b ∷ xs)) (sym behind) ∙ free; is = refl }), more.scanned);
+      scanned = subst (λ ps. AreScanned ps []) (sym first) (inr (record { byte = b; free = ap (λ xs. begins_with_sequence (b ∷ xs)) (sym after) ∙ free; is = refl }), more.scanned);
       bytes = ap bytes_of first ∙ ap (λ xs. b ∷ xs) more.bytes;
     }
 
@@ -106,8 +106,8 @@ scan-within (suc fuel) (b ∷ rest) short = by_front (front_of (b ∷ rest)) (sc
     by_front : BeginsWithSequence (b ∷ rest) ⊎ (begins_with_sequence (b ∷ rest) ≡ false) → ((text : Text) → length text ≤ fuel → IsScan text) → IsScan (b ∷ rest)
     by_front (inl s) more =
         let long = ap length s.is in
-        let behind = length-append s.code (0x6D ∷ s.rest) in
-        subst IsScan (sym s.is) (scan-sequence s.code s.rest s.parameters (more s.rest (omega (arith, short, long, behind))))
+        let after = length-append s.code (0x6D ∷ s.rest) in
+        subst IsScan (sym s.is) (scan-sequence s.code s.rest s.parameters (more s.rest (omega (arith, short, long, after))))
     by_front (inr free) more = scan-visible b rest free (more rest (omega (arith, short)))
 
 -- every text

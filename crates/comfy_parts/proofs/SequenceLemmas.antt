@@ -133,14 +133,14 @@ prefix_len-parameters (c ∷ cs) rest all =
     ap (λ t. cond t (1 + prefix_len is_parameter (cs ++ (0x6D ∷ rest))) 0) both.0 ∙ omega (arith, more)
 
 -- the byte after a prefix
-pub slice_index_behind : (xs : Text) (x : ℕ) (ys : Text) → slice_index (xs ++ (x ∷ ys)) (length xs) ≡ x
-slice_index_behind [] x ys = refl
-slice_index_behind (c ∷ cs) x ys = slice_index_behind cs x ys
+pub slice_index_after : (xs : Text) (x : ℕ) (ys : Text) → slice_index (xs ++ (x ∷ ys)) (length xs) ≡ x
+slice_index_after [] x ys = refl
+slice_index_after (c ∷ cs) x ys = slice_index_after cs x ys
 
 -- skipped bytes give no part
-parts_past-behind : (code : Text) (m : ℕ) (rest : Text) → parts_past (suc (length code)) (code ++ (m ∷ rest)) ≡ parts_past 0 rest
-parts_past-behind [] m rest = refl
-parts_past-behind (c ∷ cs) m rest = parts_past-behind cs m rest
+parts_past-after : (code : Text) (m : ℕ) (rest : Text) → parts_past (suc (length code)) (code ++ (m ∷ rest)) ≡ parts_past 0 rest
+parts_past-after [] m rest = refl
+parts_past-after (c ∷ cs) m rest = parts_past-after cs m rest
 
 -- the bytes of a sequence
 take-sequence : (code rest : Text) → take (suc (length code)) (code ++ (0x6D ∷ rest)) ≡ code ++ (0x6D ∷ [])
@@ -160,7 +160,7 @@ sequence_len-sequence code rest all = ap₂ (λ x n. if x == 0x6D then n + 3 els
     ends : slice_index text (2 + parameter_count text) ≡ 0x6D
     ends =
         let place : 2 + parameter_count text ≡ suc (suc (length code)) = omega (arith, count) in
-        ap (slice_index text) place ∙ slice_index_behind code 0x6D rest
+        ap (slice_index text) place ∙ slice_index_after code 0x6D rest
 
 -- a text that begins with a sequence has it as its first part
 pub parts-sequence : (code rest : Text) → list_all is_parameter code ≡ true
@@ -183,7 +183,7 @@ parts-sequence code rest all = ap₂ (λ (p : Part) ps. p ∷ ps) part skipped
     skipped : parts_past (sequence_len text - 1) (0x5B ∷ (code ++ (0x6D ∷ rest))) ≡ parts_past 0 rest
     skipped =
         let back : sequence_len text - 1 ≡ suc (suc (length code)) = omega (arith, len) in
-        ap (λ n. parts_past n (0x5B ∷ (code ++ (0x6D ∷ rest)))) back ∙ parts_past-behind code 0x6D rest
+        ap (λ n. parts_past n (0x5B ∷ (code ++ (0x6D ∷ rest)))) back ∙ parts_past-after code 0x6D rest
 
 -- the first part of any other text is its first byte
 pub parts-visible : (b : ℕ) (rest : Text) → begins_with_sequence (b ∷ rest) ≡ false → parts (b ∷ rest) ≡ record { is_sequence = false; bytes = b ∷ [] } ∷ parts rest

@@ -18,9 +18,9 @@ begins_otherwise-none d text utf8 none =
     begins_otherwise-unless d text (λ cs characters. none (encode_utf8_all cs) (sym (encodes-chars text utf8) ∙ ap encode_utf8_all characters))
 
 -- a delimiter at the front gives no line
-pub wrapped-delimiter : (w d : ℕ) (text behind : Text) → IsScalar d → text ≡ encode_utf8 d ++ behind → wrapped w d behind ≡ wrapped w d text
-wrapped-delimiter w d text behind scalar splits =
-    sym (ap (wrapped w d) splits ∙ lines_past-delimiter w d behind (encode_utf8_nonempty d) (begins_with-delimiter d behind scalar))
+pub wrapped-delimiter : (w d : ℕ) (text after : Text) → IsScalar d → text ≡ encode_utf8 d ++ after → wrapped w d after ≡ wrapped w d text
+wrapped-delimiter w d text after scalar splits =
+    sym (ap (wrapped w d) splits ∙ lines_past-delimiter w d after (encode_utf8_nonempty d) (begins_with-delimiter d after scalar))
 
 -- a line is cut from the front of a text at a character boundary, and the other lines are those of the text after it
 pub record IsLineCut (w d : ℕ) (text : Text) : Type 0 where

@@ -27,7 +27,7 @@ pub record IsRun (d : ℕ) (text rest : Text) (columns : ℕ) : Type 0 where
   pub passed : List ℕ
   pub splits : text ≡ encode_utf8_all passed ++ rest
   pub whole : IsUtf8 (encode_utf8_all passed)
-  pub behind : IsUtf8 rest
+  pub after : IsUtf8 rest
   pub apart : list_all joins_no_other passed ≡ true
   pub none : NonePass (λ c. c == d) passed
   pub sum : sum_by (width_or_zero false) passed ≡ columns
@@ -56,8 +56,8 @@ run-more d text rest later columns c n run splits is other =
     record {
       passed = passed ++ c ∷ [];
       splits = run.splits ∙ ap (λ (t : Text). encode_utf8_all passed ++ t) splits ∙ sym (append_assoc (encode_utf8_all passed) (encode_utf8 c) later) ∙ ap (λ (t : Text). t ++ later) (sym spelt);
-      whole = subst IsUtf8 (sym spelt) (IsUtf8-append (encode_utf8_all passed) (encode_utf8 c) run.whole (IsUtf8-encode c (first_scalar rest later c run.behind splits)));
-      behind = IsUtf8-past_char rest later c run.behind splits;
+      whole = subst IsUtf8 (sym spelt) (IsUtf8-append (encode_utf8_all passed) (encode_utf8 c) run.whole (IsUtf8-encode c (first_scalar rest later c run.after splits)));
+      after = IsUtf8-past_char rest later c run.after splits;
       apart = list_all-append joins_no_other passed (c ∷ []) ∙ ap₂ (λ a b. a && (b && true)) run.apart one.apart;
       none = none-more d c passed run.none other;
       sum = omega (arith, sums, last, run.sum, one.columns);
@@ -79,17 +79,17 @@ run-ends d text rest columns run scalar ends =
     let long = ap length run.splits ∙ length-append word rest in
     record {
       word = word;
-      element = first-clear d text word rest scalar run.splits run.whole run.behind (run.passed, refl, run.none) ends;
+      element = first-clear d text word rest scalar run.splits run.whole run.after (run.passed, refl, run.none) ends;
       columns_are = sym run.sum ∙ sym (summed_add_up.sums run.passed run.apart) ∙ ap (str_width false) (chars_from_encodes run.passed word run.whole refl);
       bound = omega (arith, run.bound, long);
     }
 
-module _ (d : ℕ) (text behind : Text) (columns : ℕ) (summed : IsSummed d text behind columns) where
-  front-long : length text ≡ length summed.word + length behind
-  front-long = ap length (sym summed.element.joined) ∙ length-append summed.word behind
+module _ (d : ℕ) (text after : Text) (columns : ℕ) (summed : IsSummed d text after columns) where
+  front-long : length text ≡ length summed.word + length after
+  front-long = ap length (sym summed.element.joined) ∙ length-append summed.word after
 
   -- the text can be cut before the rest
-  pub front-boundary : IsCharBoundary text (length text - length behind)
+  pub front-boundary : IsCharBoundary text (length text - length after)
   front-boundary =
-      let size : length text - length behind ≡ length summed.word = omega (arith, front-long) in
-      subst (IsCharBoundary text) (sym size) (IsCharBoundary-at_seam text summed.word behind (sym summed.element.joined) summed.element.whole_behind)
+      let size : length text - length after ≡ length summed.word = omega (arith, front-long) in
+      subst (IsCharBoundary text) (sym size) (IsCharBoundary-at_seam text summed.word after (sym summed.element.joined) summed.element.whole_after)

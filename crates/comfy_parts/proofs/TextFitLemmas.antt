@@ -85,8 +85,8 @@ wrapped-agree : (w d : ℕ) (text : Text) (lines : List Text) → IsScalar d →
 wrapped-agree w d text [] scalar wrapped each = All-nil SelectorsAgree
 wrapped-agree w d text (line ∷ lines) scalar (tail, slice, ends, more) each =
     let gap = slice.gap_is_delimiters in
-    let behind = (agree-texts slice.gap (line ++ tail) (only-utf8 d slice.gap scalar gap) (subst SelectorsAgree slice.splits each)).1 in
-    let both = agree-texts line tail slice.whole_characters behind in
+    let after = (agree-texts slice.gap (line ++ tail) (only-utf8 d slice.gap scalar gap) (subst SelectorsAgree slice.splits each)).1 in
+    let both = agree-texts line tail slice.whole_characters after in
     All-cons SelectorsAgree line lines both.0 (wrapped-agree w d tail lines scalar more both.1)
 
 pub lines-agree : (w d : ℕ) (text : Text) → IsScalar d → IsUtf8 text → SelectorsAgree text → All SelectorsAgree (lines_of_text w d text)

@@ -12,7 +12,7 @@ use Rattle.std.proofs.lemmas.Str.{IsUtf8-append, IsUtf8-drop, IsUtf8-nil, IsChar
 use Rattle.unicode_segmentation.proofs.TextLemmas.{encode_utf8_nonempty}
 use Rattle.comfy_parts.specs.Text.{Text}
 use Rattle.comfy_parts.specs.VisibleText.{parts, parameter_count, sequence_len, visible_text, visible_bytes}
-use Rattle.comfy_parts.proofs.SequenceLemmas.{BeginsWithSequence, begins_with_sequence, front_of, parts-sequence, sequence_len-sequence, slice_index_behind}
+use Rattle.comfy_parts.proofs.SequenceLemmas.{BeginsWithSequence, begins_with_sequence, front_of, parts-sequence, sequence_len-sequence, slice_index_after}
 use Rattle.comfy_parts.proofs.FrontLemmas.{character-visible, parts-character}
 use Rattle.std.specs.List.{flat_map}
 
@@ -38,7 +38,7 @@ rest_whole text s utf8 =
     last : slice_index text (length s.code + 2) ≡ 0x6D
     last =
         let place : length s.code + 2 ≡ suc (suc (length s.code)) = omega arith in
-        ap (slice_index text) place ∙ ap (λ (t : Text). slice_index t (suc (suc (length s.code)))) s.is ∙ slice_index_behind s.code 0x6D s.rest
+        ap (slice_index text) place ∙ ap (λ (t : Text). slice_index t (suc (suc (length s.code)))) s.is ∙ slice_index_after s.code 0x6D s.rest
 
 -- the visible text of each text of at most n bytes is whole characters
 abbrev WholeWithin : ℕ → Type 0
@@ -49,8 +49,8 @@ pub visible_character : (c : ℕ) (more : Text) → begins_with_sequence (encode
 visible_character c more free = ap (flat_map visible_bytes) (parts-character c more free) ∙ character-visible c (parts more)
 
 -- the visible text with a character at its front
-behind_character : (fuel c : ℕ) (cs : List ℕ) (text : Text) → text ≡ encode_utf8 c ++ encode_utf8_all cs → all_scalars (c ∷ cs) ≡ true → begins_with_sequence text ≡ false → length text ≤ suc fuel → WholeWithin fuel → IsUtf8 (visible_text text)
-behind_character fuel c cs text is scalars free short rest =
+after_character : (fuel c : ℕ) (cs : List ℕ) (text : Text) → text ≡ encode_utf8 c ++ encode_utf8_all cs → all_scalars (c ∷ cs) ≡ true → begins_with_sequence text ≡ false → length text ≤ suc fuel → WholeWithin fuel → IsUtf8 (visible_text text)
+after_character fuel c cs text is scalars free short rest =
     subst IsUtf8 (sym shown) (IsUtf8-append (encode_utf8 c) (visible_text more) first (rest more shorter (cs, ((and_parts (scalar_of c) (all_scalars cs) scalars).1, refl))))
   where
     more : Text
@@ -76,11 +76,11 @@ whole_within (suc fuel) (b ∷ rest) short utf8 = by_front (front_of (b ∷ rest
     by_front : BeginsWithSequence (b ∷ rest) ⊎ (begins_with_sequence (b ∷ rest) ≡ false) → IsUtf8 (b ∷ rest) → WholeWithin fuel → IsUtf8 (visible_text (b ∷ rest))
     by_front (inl s) utf8 more =
         let long = ap length s.is in
-        let behind = length-append s.code (0x6D ∷ s.rest) in
+        let after = length-append s.code (0x6D ∷ s.rest) in
         let shown : visible_text (b ∷ rest) ≡ visible_text s.rest = ap visible_text s.is ∙ ap (flat_map visible_bytes) (parts-sequence s.code s.rest s.parameters) in
-        subst IsUtf8 (sym shown) (more s.rest (omega (arith, short, long, behind)) (rest_whole (b ∷ rest) s utf8))
+        subst IsUtf8 (sym shown) (more s.rest (omega (arith, short, long, after)) (rest_whole (b ∷ rest) s utf8))
     by_front (inr free) ([], (scalars, is)) more = absurd (let len = ap length is in omega (arith, len))
-    by_front (inr free) (c ∷ cs, (scalars, is)) more = behind_character fuel c cs (b ∷ rest) (sym is) scalars free short more
+    by_front (inr free) (c ∷ cs, (scalars, is)) more = after_character fuel c cs (b ∷ rest) (sym is) scalars free short more
 
 -- the visible text of every text of whole characters is whole characters
 pub visible_text-whole : (text : Text) → IsUtf8 text → IsUtf8 (visible_text text)
@@ -94,16 +94,16 @@ none_at_front text none =
     cond_both (begins_with_sequence text) _ _ (λ n. n ≡ 0 → begins_with_sequence text ≡ false) (λ _ len. absurd (omega (arith, len))) (λ free _. free) none
 
 -- the text after a sequence at the front
-pub record IsBehind (text rest : Text) : Type 0 where
+pub record IsTail (text rest : Text) : Type 0 where
   pub visible : visible_text text ≡ visible_text rest
   pub whole : IsUtf8 rest
 
-pub behind_sequence : (text : Text) → IsUtf8 text → 0 < sequence_len text → IsBehind text (drop (sequence_len text) text)
-behind_sequence text utf8 some = by_front (front_of text)
+pub after_sequence : (text : Text) → IsUtf8 text → 0 < sequence_len text → IsTail text (drop (sequence_len text) text)
+after_sequence text utf8 some = by_front (front_of text)
   where
-    by_front : BeginsWithSequence text ⊎ (begins_with_sequence text ≡ false) → IsBehind text (drop (sequence_len text) text)
+    by_front : BeginsWithSequence text ⊎ (begins_with_sequence text ≡ false) → IsTail text (drop (sequence_len text) text)
     by_front (inr free) = absurd (let none = ap (λ b. if b then parameter_count text + 3 else 0) free in omega (arith, none, some))
     by_front (inl s) =
         let len : sequence_len text ≡ length s.code + 3 = ap sequence_len s.is ∙ sequence_len-sequence s.code s.rest s.parameters ∙ omega arith in
-        subst (IsBehind text) (sym (past_sequence text s (sequence_len text) len))
+        subst (IsTail text) (sym (past_sequence text s (sequence_len text) len))
         (record { visible = ap visible_text s.is ∙ ap (flat_map visible_bytes) (parts-sequence s.code s.rest s.parameters); whole = rest_whole text s utf8 })

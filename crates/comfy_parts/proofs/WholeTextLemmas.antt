@@ -82,8 +82,8 @@ none_left o (p ∷ ps) rest (inl part, more) none closes =
     (none_left true ps rest more (ap (λ (x : Part). visible_byte_count (x ∷ ps)) (sym part.is) ∙ none))
   where
     by_kind : IsReset [] o false p.bytes ps ⊎ IsOther [] p.bytes ps → (closes_itself true false ps ≡ true → AreNone true ps) → AreNone o (p ∷ ps)
-    by_kind (inl same) behind = absurd (true≢false (sym same.follows_visible))
-    by_kind (inr other) behind = absurd (true≢false (behind other.more).closed)
+    by_kind (inl same) after = absurd (true≢false (sym same.follows_visible))
+    by_kind (inr other) after = absurd (true≢false (after other.more).closed)
 
 -- ---- the written text
 
@@ -116,18 +116,18 @@ all_shut ss o follows (p ∷ ps) rest (inl part, more) is closes =
     needs_reset false some = refl
 
     by_kind : IsReset ss o follows p.bytes ps ⊎ IsOther ss p.bytes ps → ((ts : List Text) (t : Bool) → t ≡ is_open ts → closes_itself t false ps ≡ true → IsShut ts) → IsShut (opened_by ss q)
-    by_kind (inl same) behind = subst IsShut (sym same.opens) (behind [] false refl same.more)
-    by_kind (inr other) behind = subst IsShut (sym other.opens) (behind (ss ++ p.bytes ∷ []) true (some_open ss p.bytes) other.more)
+    by_kind (inl same) after = subst IsShut (sym same.opens) (after [] false refl same.more)
+    by_kind (inr other) after = subst IsShut (sym other.opens) (after (ss ++ p.bytes ∷ []) true (some_open ss p.bytes) other.more)
 
     by_count : (n : ℕ) → visible_byte_count ps ≡ n → IsReset ss o follows p.bytes ps ⊎ IsOther ss p.bytes ps → ((ts : List Text) (t : Bool) → t ≡ is_open ts → closes_itself t false ps ≡ true → IsShut ts)
         → shut n ss (q ∷ ps) ≡ p.bytes ++ bytes_of ps
-    by_count zero none (inr other) behind = absurd (true≢false (none_left true ps rest more none other.more).closed)
-    by_count zero none (inl same) behind =
+    by_count zero none (inr other) after = absurd (true≢false (none_left true ps rest more none other.more).closed)
+    by_count zero none (inl same) after =
         let empty = (none_left false ps rest more none same.more).empty in
         needs_reset (length ss == 0) (sym is ∙ same.closes) ∙ same.is ∙ sym (append-nil p.bytes) ∙ ap (λ (qs : List Part). p.bytes ++ bytes_of qs) (sym empty)
-    by_count (suc n) some kind behind =
+    by_count (suc n) some kind after =
         append_assoc p.bytes (bytes_of (parts_up_to (suc n) ps)) (closing (opened (opened_by ss q) (parts_up_to (suc n) ps)))
-        ∙ ap (λ (t : Text). p.bytes ++ t) (subst (λ k. shut k (opened_by ss q) ps ≡ bytes_of ps) some (by_kind kind behind))
+        ∙ ap (λ (t : Text). p.bytes ++ t) (subst (λ k. shut k (opened_by ss q) ps ≡ bytes_of ps) some (by_kind kind after))
 
 -- the bytes with the sequences before the first visible byte
 abbrev resumed : List Text → List Part → Text
@@ -147,10 +147,10 @@ all_resumed ss o (p ∷ ps) rest (inl part, more) is some closes =
 
     by_kind : IsReset ss o false s ps ⊎ IsOther ss s ps → (closes_itself true false ps ≡ true → resumed (ss ++ s ∷ []) ps ≡ concat (ss ++ s ∷ []) ++ bytes_of ps)
         → resumed ss (sequence_part s ∷ ps) ≡ concat ss ++ (s ++ bytes_of ps)
-    by_kind (inl same) behind = absurd (true≢false (sym same.follows_visible))
-    by_kind (inr other) behind =
+    by_kind (inl same) after = absurd (true≢false (sym same.follows_visible))
+    by_kind (inr other) after =
         ap (λ (ts : List Text). resumed ts ps) other.opens
-        ∙ behind other.more
+        ∙ after other.more
         ∙ ap (λ (t : Text). t ++ bytes_of ps) (concat-append ss (s ∷ []) ∙ ap (λ (t : Text). concat ss ++ t) (append-nil s))
         ∙ append_assoc (concat ss) s (bytes_of ps)
 

@@ -8,7 +8,7 @@ use Rattle.std.proofs.lemmas.Grind.{flat_map-append}
 use Rattle.std.proofs.lemmas.List.{drop_all, drop_more, get_or-map, length-map, length-take, map-append, take-append-drop}
 use Rattle.std.proofs.lemmas.Str.{IsUtf8-take}
 use Rattle.unicode_segmentation.proofs.TextLemmas.{encode_utf8_nonempty}
-use Rattle.comfy_parts.specs.Cursor.{CursorValue, IsBehindGap, StandsAt, at_byte, open_at_end, visible_ahead}
+use Rattle.comfy_parts.specs.Cursor.{CursorValue, IsAfterGap, IsAt, at_byte, open_at_end, visible_ahead}
 use Rattle.comfy_parts.specs.Text.{Text, IsOnly, begins_with, measure}
 use Rattle.comfy_parts.specs.VisibleLines.{CellLine, line_texts, line_texts_of_text, line_texts_past, starts_of_text, starts_past}
 use Rattle.comfy_parts.specs.VisibleText.{active, line_text, open_after, parts, parts_from, parts_up_to, opened, text_between, visible_text}
@@ -112,43 +112,43 @@ module _ (w d : ℕ) where
 -- ---- the texts that are written at these positions
 
 -- a cursor further on writes the same texts at the nearer positions
-written-further : (n : ℕ) (old new : CursorValue) (positions : List (ℕ × ℕ)) → StandsAt new n old → written_at old (map (further n) positions) ≡ written_at new positions
-written-further n old new [] stands = refl
-written-further n old new (p ∷ ps) stands =
+written-further : (n : ℕ) (old new : CursorValue) (positions : List (ℕ × ℕ)) → IsAt new n old → written_at old (map (further n) positions) ≡ written_at new positions
+written-further n old new [] is_at = refl
+written-further n old new (p ∷ ps) is_at =
     let plain : 0 + p.0 ≡ p.0 = omega arith in
-    let same : at_byte (n + p.0) old ≡ at_byte p.0 new = sym (at_further n p.0 old) ∙ ap (at_byte p.0) (sym stands) ∙ at_further 0 p.0 new ∙ ap (λ k. at_byte k new) plain in
-    ap₂ (λ c (ts : List Text). written p.1 c ∷ ts) same (written-further n old new ps stands)
+    let same : at_byte (n + p.0) old ≡ at_byte p.0 new = sym (at_further n p.0 old) ∙ ap (at_byte p.0) (sym is_at) ∙ at_further 0 p.0 new ∙ ap (λ k. at_byte k new) plain in
+    ap₂ (λ c (ts : List Text). written p.1 c ∷ ts) same (written-further n old new ps is_at)
 
 -- a text that has a line isn't empty
-some_bytes : (w d : ℕ) (line : Text) (behind : List Text) (text : Text) → line ∷ behind ≡ wrapped w d text → 0 < length text
+some_bytes : (w d : ℕ) (line : Text) (after : List Text) (text : Text) → line ∷ after ≡ wrapped w d text → 0 < length text
 unfolding lines_past
-some_bytes w d line behind [] is = absurd (let len = ap length is in omega (arith, len))
-some_bytes w d line behind (b ∷ bs) is = omega arith
+some_bytes w d line after [] is = absurd (let len = ap length is in omega (arith, len))
+some_bytes w d line after (b ∷ bs) is = omega arith
 
 -- the first line of a wrapped text and the lines after it, for a cursor before the gap of this line, and one after the
 -- gap
-pub record IsNextLine (w d : ℕ) (old mid : CursorValue) (line : Text) (behind : List Text) : Type 0 where
+pub record IsNextLine (w d : ℕ) (old mid : CursorValue) (line : Text) (after : List Text) : Type 0 where
   pub whole : IsUtf8 (take (length line) (visible_ahead mid))
   pub rest_whole : IsUtf8 (drop (length line) (visible_ahead mid))
-  pub lines : behind ≡ wrapped w d (drop (length line) (visible_ahead mid))
-  pub written_is : (new : CursorValue) → StandsAt new (length line) mid → visible_ahead new ≡ drop (length line) (visible_ahead mid)
+  pub lines : after ≡ wrapped w d (drop (length line) (visible_ahead mid))
+  pub written_is : (new : CursorValue) → IsAt new (length line) mid → visible_ahead new ≡ drop (length line) (visible_ahead mid)
       → written_at old (wrapped_positions w d (visible_ahead old)) ≡ written (length line) (at_byte 0 mid) ∷ written_at new (wrapped_positions w d (visible_ahead new))
 
-pub next_line : (w d : ℕ) (old mid : CursorValue) (line : Text) (behind : List Text) → IsScalar d → IsUtf8 (visible_ahead old) → IsBehindGap d old mid → line ∷ behind ≡ wrapped w d (visible_ahead old)
-    → IsNextLine w d old mid line behind
-next_line w d old mid line behind scalar utf8 gap lines =
+pub next_line : (w d : ℕ) (old mid : CursorValue) (line : Text) (after : List Text) → IsScalar d → IsUtf8 (visible_ahead old) → IsAfterGap d old mid → line ∷ after ≡ wrapped w d (visible_ahead old)
+    → IsNextLine w d old mid line after
+next_line w d old mid line after scalar utf8 gap lines =
     record {
       whole = subst (λ n. IsUtf8 (take n visible)) (sym long) (IsUtf8-take visible end whole cut.place);
       rest_whole = subst (λ n. IsUtf8 (drop n visible)) (sym long) cut.whole_rest;
       lines = second ∙ ap (λ n. wrapped w d (drop n visible)) (sym long);
-      written_is = λ new stands left.
+      written_is = λ new is_at left.
           ap (λ t. written_at old (wrapped_positions w d t)) gap.visible
           ∙ ap (written_at old) (positions-gap w d gap.gap visible scalar gap.only)
-          ∙ written-further (length gap.gap) old mid (wrapped_positions w d visible) gap.stands
+          ∙ written-further (length gap.gap) old mid (wrapped_positions w d visible) gap.is_at
           ∙ ap (λ t. written_at mid (wrapped_positions w d t)) (sym halves)
           ∙ ap (written_at mid) (positions-line w d line (drop end visible) (omega (arith, long, cut.some)) (ap (begins_with d) halves ∙ gap.begins_otherwise) (long ∙ ap (line_end w d) (sym halves)))
           ∙ ap (λ (ts : List Text). written (length line) (at_byte 0 mid) ∷ ts)
-          (written-further (length line) mid new (wrapped_positions w d (drop end visible)) stands ∙ ap (λ t. written_at new (wrapped_positions w d t)) (ap (λ n. drop n visible) (sym long) ∙ sym left));
+          (written-further (length line) mid new (wrapped_positions w d (drop end visible)) is_at ∙ ap (λ t. written_at new (wrapped_positions w d t)) (ap (λ n. drop n visible) (sym long) ∙ sym left));
     }
   where
     visible : Text
@@ -157,23 +157,23 @@ next_line w d old mid line behind scalar utf8 gap lines =
     whole : IsUtf8 visible
     whole = whole-past_gap d gap.only.0 visible (subst IsUtf8 (gap.visible ∙ ap (λ g. g ++ visible) gap.only.1) utf8)
 
-    same : line ∷ behind ≡ wrapped w d visible
+    same : line ∷ after ≡ wrapped w d visible
     same =
         lines ∙ ap (wrapped w d) (gap.visible ∙ ap (λ g. g ++ visible) gap.only.1) ∙ lines_past-gap w d gap.only.0 visible scalar
 
     cut : IsLineCut w d visible
-    cut = line-cut w d visible whole (some_bytes w d line behind visible same) gap.begins_otherwise
+    cut = line-cut w d visible whole (some_bytes w d line after visible same) gap.begins_otherwise
 
     end : ℕ
     end = line_end w d visible
 
-    both : line ∷ behind ≡ take end visible ∷ wrapped w d (drop end visible)
+    both : line ∷ after ≡ take end visible ∷ wrapped w d (drop end visible)
     both = same ∙ cut.lines
 
     first : line ≡ take end visible
     first = cc both
 
-    second : behind ≡ wrapped w d (drop end visible)
+    second : after ≡ wrapped w d (drop end visible)
     second = cc both
 
     long : length line ≡ end

@@ -1,4 +1,5 @@
--- Borders and vertical lines. A style draws one if any of its six lines has a character for it.
+-- Borders and vertical lines. A style draws a border or vertical lines if any of its six lines has
+-- a character at this place.
 -- Source: has_left_border, has_right_border and has_vertical_lines of comfy-table 8.0.1.
 use Rattle.std.specs.Prelude.{ℕ, Bool, List, [], ◌∷◌, Option, is_some}
 use Rattle.std.specs.List.{list_any}

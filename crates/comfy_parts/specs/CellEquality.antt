@@ -1,5 +1,5 @@
--- Equality and hashes of cells: both read the value of a cell. They are the tests and writes of
--- `std` for its fields, in order, and have the laws of these.
+-- Equality and hashes of cells. Both read the fields of a cell's value in order. For each field
+-- they use the test and the writes of `std`, so they have the laws of `Eq` and `Hash`.
 -- Source: the derived PartialEq, Eq and Hash of Cell of comfy-table 8.0.1.
 use Rattle.std.specs.Prelude.{◌≡◌, ◌&&◌, ◌++◌, pos, Bool, true, Option, Some, None, nat_eq}
 use Rattle.std.specs.Cmp.{IsEquivalence, and_equiv, on_equiv, nat_eq_equiv, unsigned_Decides}

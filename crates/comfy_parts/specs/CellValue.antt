@@ -40,7 +40,7 @@ pub record RowValue : Type 0 where
   pub cells : List CellValue
   pub max_height : Option ℕ
 
--- the invariant of a row: each cell keeps its own, and a greatest height is at least 1
+-- the invariant of a row: the invariant of each cell holds, and a greatest height is at least 1
 pub record IsRow (row : RowValue) : Type 0 where
   pub cells : All IsCell row.cells
   pub some_height : IfSome row.max_height (λ h. 1 ≤ h)

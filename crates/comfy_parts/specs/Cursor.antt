@@ -27,10 +27,10 @@ begins_with_sequence [] = false
 begins_with_sequence (p ∷ ps) = p.is_sequence
 
 -- the parts after the n-th visible byte
-abbrev pub parts_behind : ℕ → List Part → List Part
-parts_behind zero ps = ps
-parts_behind (suc n) [] = []
-parts_behind (suc n) (p ∷ ps) = parts_behind (if p.is_sequence then suc n else n) ps
+abbrev pub parts_after : ℕ → List Part → List Part
+parts_after zero ps = ps
+parts_after (suc n) [] = []
+parts_after (suc n) (p ∷ ps) = parts_after (if p.is_sequence then suc n else n) ps
 
 -- a call of an iterator over parts returned a sequence, or visible bytes, or `None` because no part
 -- was left
@@ -50,7 +50,7 @@ pub record CursorValue : Type 0 where
 abbrev pub visible_ahead : CursorValue → Text
 visible_ahead c = flat_map visible_bytes c.ahead
 
--- a cursor after the first of these parts, which follow it
+-- a cursor moved past the first of the parts that follow it
 abbrev pub stepped : CursorValue → List Part → CursorValue
 stepped c [] = c
 stepped c (p ∷ ps) = record { sequences = opened_by c.sequences p; ahead = ps }
@@ -65,11 +65,11 @@ at_byte n c =
     record { sequences = opened c.sequences (parts_before n c.ahead); ahead = parts_from n c.ahead }
 
 -- the cursor moved past n visible bytes, with the sequences after the last of them not yet passed
-abbrev pub behind_bytes : ℕ → CursorValue → CursorValue
-behind_bytes n c =
+abbrev pub past_bytes : ℕ → CursorValue → CursorValue
+past_bytes n c =
     record {
       sequences = opened c.sequences (parts_up_to n c.ahead);
-      ahead = parts_behind n c.ahead;
+      ahead = parts_after n c.ahead;
     }
 
 -- the bytes that a cursor passes on its way past n visible bytes
@@ -82,14 +82,14 @@ open_at_end c = opened c.sequences c.ahead
 
 -- the first cursor is at the visible byte at n after the second one, up to sequences before that
 -- byte
-abbrev pub StandsAt : CursorValue → ℕ → CursorValue → Type 0
-StandsAt new n old = at_byte 0 new ≡ at_byte n old
+abbrev pub IsAt : CursorValue → ℕ → CursorValue → Type 0
+IsAt new n old = at_byte 0 new ≡ at_byte n old
 
 -- the visible text between two cursors is only delimiters, and the visible text after the second
 -- one doesn't begin with a delimiter
-pub record IsBehindGap (d : ℕ) (old new : CursorValue) : Type 0 where
+pub record IsAfterGap (d : ℕ) (old new : CursorValue) : Type 0 where
   pub gap : Text
   pub only : IsOnly d gap
   pub visible : visible_ahead old ≡ gap ++ visible_ahead new
-  pub stands : StandsAt new (length gap) old
+  pub is_at : IsAt new (length gap) old
   pub begins_otherwise : begins_with d (visible_ahead new) ≡ false

@@ -13,21 +13,21 @@ Follow d (e ∷ es) rest = (more : Text) × (rest ≡ encode_utf8 d ++ more) × 
 
 -- the text after an element is empty, or begins with a delimiter
 abbrev pub EndsElement : ℕ → Text → Type 0
-EndsElement d behind = (behind ≡ []) ⊎ ((more : Text) × (behind ≡ encode_utf8 d ++ more))
+EndsElement d after = (after ≡ []) ⊎ ((more : Text) × (after ≡ encode_utf8 d ++ more))
 
 -- the first element of a text, and the text after it, both in whole characters
-pub record IsFirstElement (d : ℕ) (text first behind : Text) : Type 0 where
+pub record IsFirstElement (d : ℕ) (text first after : Text) : Type 0 where
   pub others : List Text
   pub elements_are : elements d text ≡ first ∷ others
-  pub follow : Follow d others behind
-  pub joined : first ++ behind ≡ text
+  pub follow : Follow d others after
+  pub joined : first ++ after ≡ text
   pub whole_first : IsUtf8 first
-  pub whole_behind : IsUtf8 behind
+  pub whole_after : IsUtf8 after
 
--- the first element of a text takes `columns` terminal columns, and is followed by `behind`
-pub record IsSummed (d : ℕ) (text behind : Text) (columns : ℕ) : Type 0 where
+-- the first element of a text takes `columns` terminal columns, and is followed by `after`
+pub record IsSummed (d : ℕ) (text after : Text) (columns : ℕ) : Type 0 where
   pub word : Text
-  pub element : IsFirstElement d text word behind
+  pub element : IsFirstElement d text word after
   pub columns_are : columns ≡ measure word
   pub bound : columns ≤ 2 * length word
 
@@ -66,13 +66,14 @@ pub record IsMeasured (d : ℕ) (text : Text) (left first columns : ℕ) : Type 
   pub element : IsFirstElement d others (take first others) (drop first others)
   pub columns_are : columns ≡ measure (take first others)
 
--- the last `left` bytes of a longer text, which ends with this one, begin with such an element
-abbrev pub IsMeasuredBehind : ℕ → Text → ℕ → ℕ → ℕ → Type 0
-IsMeasuredBehind d text left first columns =
+-- the text is the end of a longer text, whose last `left` bytes begin with an element of `first`
+-- bytes and `columns` terminal columns
+abbrev pub IsMeasuredAtEnd : ℕ → Text → ℕ → ℕ → ℕ → Type 0
+IsMeasuredAtEnd d text left first columns =
     (whole : Text) × (before : Text) × (whole ≡ before ++ text)
     × IsMeasured d whole left first columns
 
--- after every text this one adds `to - from` terminal columns
+-- the text adds `to - from` terminal columns to every text before it
 abbrev pub FillsTo : ℕ → ℕ → Text → Type 0
 FillsTo from to text =
     (front : Text) → IsUtf8 front → measure (front ++ text) + from ≡ measure front + to

@@ -6,6 +6,6 @@ use Rattle.std.specs.Iterator.{AlwaysYields, Count, IsFinite}
 -- the iterator can be called, ends, and until then returns these items in order
 pub record GivesAll {S A : Type 0} (can_next : S → Type 0) (steps : S → Option A → S → Type 0)
     (remaining : S → Count) (from : S) (items : List A) : Type 0 where
-  pub may_be_asked : can_next from
+  pub can_be_called : can_next from
   pub ends : IsFinite (remaining from)
   pub in_order : AlwaysYields steps (λ x. x) from items

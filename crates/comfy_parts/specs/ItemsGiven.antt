@@ -37,7 +37,7 @@ gives_rest steps rest none some (y ∷ ys) s e = (
   ),
 )
 
--- the iterator of a `Vec`
+-- the iterator of a `Vec` returns the items that are left in it
 pub vec_gives : {A Z : Type 0} (from : IntoIter A Z) (values : List A)
     → into_iter_items from ≡ values
     → AlwaysYields into_iter_steps (λ x. x) from values
@@ -45,7 +45,7 @@ vec_gives from values items =
     gives_rest into_iter_steps into_iter_items (λ s t st. sym s.rest.ok.0 ∙ st.0)
     (λ s t x st. st.0) values from items
 
--- the iterator of an array
+-- the iterator of an array returns the items that are left in it
 pub array_gives : {A : Type 0} {n : ℕ} (from : ArrayIter A n) (values : List A)
     → array_into_iter_items from ≡ values
     → AlwaysYields (array_steps {A = A} {n = n}) (λ x. x) from values

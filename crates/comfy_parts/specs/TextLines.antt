@@ -46,7 +46,8 @@ abbrev pub kept_texts : Storage → List Text
 kept_texts (kept.Plain text width) = string_bytes text ∷ []
 kept_texts (kept.Boxed several) = texts_of several.value.raw
 
--- a plain text line is one without ESC, and others are stored with their widths and visible texts
+-- `Plain` is one text line without ESC, and other text lines are stored with their widths and, if
+-- needed, their visible texts
 abbrev pub KeepsMeasured : Storage → Type 0
 KeepsMeasured (kept.Plain text width) = IsClearLine (string_bytes text) width
 KeepsMeasured (kept.Boxed several) = AreMeasured several.value.raw several.value.visible

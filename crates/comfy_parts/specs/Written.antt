@@ -3,7 +3,7 @@
 -- Source: this library's own.
 use Rattle.std.specs.Prelude.{ℕ, ◌==◌, List, [], ◌++◌, map, zip, length, if◌then◌else◌}
 use Rattle.std.specs.List.{concat}
-use Rattle.comfy_parts.specs.Cursor.{CursorValue, at_byte, behind_bytes, bytes_up_to, visible_ahead}
+use Rattle.comfy_parts.specs.Cursor.{CursorValue, at_byte, bytes_up_to, past_bytes, visible_ahead}
 use Rattle.comfy_parts.specs.Text.{Text}
 use Rattle.comfy_parts.specs.VisibleLines.{starts_of_text, starts_past}
 use Rattle.comfy_parts.specs.VisibleText.{closing}
@@ -14,7 +14,7 @@ use Rattle.comfy_parts.specs.Wrapping.{lines_of_text, wrapped}
 abbrev pub written : ℕ → CursorValue → Text
 written len c =
     if len == 0 then []
-    else concat c.sequences ++ (bytes_up_to len c ++ closing (behind_bytes len c).sequences)
+    else concat c.sequences ++ (bytes_up_to len c ++ closing (past_bytes len c).sequences)
 
 -- the texts for lines with these positions and lengths, in visible bytes
 abbrev pub written_at : CursorValue → List (ℕ × ℕ) → List Text

@@ -16,7 +16,8 @@ use std::fmt::{self, Display};
 use std::hash::{Hash, Hasher};
 use std::marker::Model;
 
-/// One cell of a table. It has at least one text line, and no text line contains a line feed.
+/// One cell of a table: a text and its settings, such as colours. The text is stored as text lines,
+/// which are its pieces between line feeds. There is at least one text line.
 ///
 /// ```
 /// let cell = Cell::new(alloc, "rent")?
@@ -32,9 +33,9 @@ pub struct Cell {
     background: Option<Color>,
 }
 
-// The proof of a caller opens a derived drop at each `?` after which the caller owns the value. A
-// drop that is written by hand is only a call there. So types that callers own have a drop of their
-// own if it makes proofs of callers shorter.
+// At each `?` at which a caller owns a value, the caller's proof unfolds the value's derived drop.
+// A drop that is written by hand is only a call there. So a type that callers own has a drop of its
+// own if it makes their proofs shorter.
 impl Drop for Cell {
     fn drop(self) {
         let Cell {
@@ -66,13 +67,13 @@ impl Model for Cell {
 }
 
 impl Cell {
-    /// Makes a cell of the text that `content` prints. Its text lines are the pieces of this text
-    /// between the line feeds.
+    /// Makes a cell of the text that the `Display` of `content` writes, without settings. The text
+    /// lines of the cell are the pieces of this text between line feeds.
     ///
     /// # Errors
     ///
-    /// `OutOfMemory` if memory runs out, or if the `Display` of `content` returns an error. Then
-    /// `content` is dropped.
+    /// `OutOfMemory` if memory runs out, or if the `Display` of `content` returns an error. After
+    /// an error `content` is dropped.
     ///
     /// ```
     /// let cells = [Cell::new(alloc, "rent")?, Cell::new(alloc, 1200)?];
@@ -86,10 +87,11 @@ impl Cell {
         Cell::new_owned(alloc, content.to_string(alloc)?)
     }
 
-    /// Makes a cell of a text. Its text lines are the pieces of the text between the line feeds. A
-    /// text without line feeds and without ESC keeps its `String`, and takes no further memory.
+    /// Makes a cell of a text, without settings. The text lines of the cell are the pieces of the
+    /// text between line feeds. If the text has neither a line feed nor ESC, the cell stores this
+    /// `String` itself, and the call takes no memory.
     ///
-    /// The only error is `OutOfMemory`. Then the text is dropped.
+    /// The only error is `OutOfMemory`. After it the text is dropped.
     pub fn new_owned(alloc: Global, text: String) -> Result<Cell>
         ensures value { IfOk result (λ cell. cell ≡ plain_cell (string_bytes text)) }
         ensures content { IfOk result (λ cell. content_of cell ≡ string_bytes text) }
@@ -123,7 +125,8 @@ impl Cell {
         Ok(self.text_lines().join(*self.attributes.allocator(), "\n")?)
     }
 
-    /// The text lines in order, with their sequences.
+    /// The text lines of the cell in order, with their colour sequences. They are the pieces of the
+    /// cell's text between line feeds.
     pub fn text_lines(&self) -> &[String]
         ensures value { map string_bytes result.now ≡ self.now.text_lines }
         ensures is_cell { IsCell self.now }
@@ -131,8 +134,8 @@ impl Cell {
         self.text_lines.raw().0
     }
 
-    /// Sets the character at which the cell's texts may break. It comes before the delimiters of
-    /// the column and of the table.
+    /// Sets the cell's delimiter, the character at which its text lines may break. It takes
+    /// precedence over the delimiters of the column and of the table.
     pub fn set_delimiter(mut self, delimiter: char) -> Cell
         ensures { result ≡ record self { delimiter = Some delimiter } }
     {
@@ -140,7 +143,8 @@ impl Cell {
         self
     }
 
-    /// Sets the alignment of the cell's lines. It comes before the alignment of the column.
+    /// Sets the alignment of the cell's lines. It takes precedence over the alignment of the
+    /// column.
     pub fn set_alignment(mut self, alignment: CellAlignment) -> Cell
         ensures { result ≡ record self { alignment = Some alignment } }
     {
@@ -148,7 +152,7 @@ impl Cell {
         self
     }
 
-    /// Sets the colour of the text.
+    /// Sets the foreground colour, which is the colour of the cell's text.
     ///
     /// ```
     /// let amount = -12;
@@ -162,7 +166,7 @@ impl Cell {
         self
     }
 
-    /// Sets the background colour.
+    /// Sets the background colour of the cell.
     pub fn bg(mut self, color: Color) -> Cell
         ensures { result ≡ record self { background = Some color } }
     {
@@ -170,8 +174,9 @@ impl Cell {
         self
     }
 
-    /// Adds an attribute after the attributes that the cell has. Each attribute is written once, in
-    /// a fixed order, even if it was added several times. After `OutOfMemory` the cell is dropped.
+    /// Adds an attribute, such as bold, to the end of the cell's list of attributes. In a drawing
+    /// each attribute is written only once, and the attributes come in the order of the enumeration
+    /// `Attribute`. After `OutOfMemory` the cell is dropped.
     ///
     /// ```
     /// let cell = Cell::new(alloc, "Sum")?.add_attribute(Attribute::Bold)?;
@@ -184,8 +189,8 @@ impl Cell {
         self.with_attributes(&[attribute])
     }
 
-    /// Adds attributes in their order, each as `add_attribute` does. After `OutOfMemory` the cell
-    /// is dropped.
+    /// Adds these attributes in their order to the end of the cell's list of attributes, as
+    /// repeated calls of `add_attribute` do. After `OutOfMemory` the cell is dropped.
     pub fn add_attributes(self, attributes: Vec<Attribute>) -> Result<Cell>
         ensures { IfOk result (λ cell. cell ≡ record self {
           attributes = self.attributes ++ attributes.items;
@@ -204,36 +209,37 @@ impl Cell {
         Ok(self)
     }
 
-    /// The character at which the cell's texts may break. `None` if the delimiter of the column or
-    /// of the table applies.
+    /// The cell's own delimiter, the character at which its text lines may break. `None` if the
+    /// delimiter of the column or of the table applies.
     pub fn cell_delimiter(&self) -> Option<char>
         ensures { result ≡ self.now.delimiter }
     {
         self.delimiter
     }
 
-    /// The alignment of the cell's lines. `None` if the alignment of the column applies.
+    /// The cell's own alignment of its lines. `None` if the alignment of the column applies.
     pub fn cell_alignment(&self) -> Option<CellAlignment>
         ensures { result ≡ self.now.alignment }
     {
         self.alignment
     }
 
-    /// The colour of the text. `None` if it isn't set.
+    /// The foreground colour, which is the colour of the cell's text. `None` if no colour is set.
     pub fn foreground(&self) -> Option<Color>
         ensures { result ≡ self.now.foreground }
     {
         self.foreground
     }
 
-    /// The background colour. `None` if it isn't set.
+    /// The background colour of the cell. `None` if no colour is set.
     pub fn background(&self) -> Option<Color>
         ensures { result ≡ self.now.background }
     {
         self.background
     }
 
-    /// The attributes, in the order in which they were added, with repetitions.
+    /// The attributes of the cell, in the order in which they were added. An attribute that was
+    /// added twice occurs twice.
     pub fn attributes(&self) -> &[Attribute]
         ensures { result.now ≡ self.now.attributes }
     {
@@ -270,8 +276,8 @@ impl Clone for Cell {
     }
 }
 
-// Two cells are equal if their values are. Stored widths and visible texts aren't compared, because
-// they follow from the text lines.
+// Two cells are equal if their text lines and settings are. Stored widths and visible texts aren't
+// compared, because they follow from the text lines.
 impl PartialEq for Cell {
     ghost eq = { cell_eq };
 

@@ -6,7 +6,7 @@ ghost use Rattle.comfy_parts.specs.CellValue.{IsColumn, is_hidden_column, new_co
 use crate::style::{CellAlignment, ColumnConstraint};
 use std::marker::Model;
 
-/// The settings of one column. None of its calls takes memory.
+/// The settings of one column. None of the methods takes memory.
 ///
 /// ```
 /// if let Some(column) = table.column_mut(0) {
@@ -18,8 +18,8 @@ use std::marker::Model;
 /// ```
 #[derive(Clone, Debug, Drop)]
 pub struct Column {
-    /// A label for the caller. No function reads it: only the position in the table's list of
-    /// columns counts.
+    /// A label for the caller's own use. No function reads it: only the position of the column in
+    /// the table's list of columns counts.
     pub index: usize,
     padding: (u16, u16),
     delimiter: Option<char>,
@@ -52,7 +52,8 @@ impl Model for Column {
 }
 
 impl Column {
-    /// A column with a padding of one terminal column on each side, and no other setting.
+    /// A column with a padding of one terminal column on each side, and no other setting. `index`
+    /// is only a label for the caller.
     pub fn new(index: usize) -> Column
         ensures { result ≡ new_column index }
     {
@@ -65,15 +66,16 @@ impl Column {
         }
     }
 
-    /// The terminal columns left free on the left and on the right of the content, in this order.
+    /// The paddings of the column: the numbers of free terminal columns on the left and on the
+    /// right of the content, in this order.
     pub fn padding(&self) -> (u16, u16)
         ensures { result ≡ self.now.padding }
     {
         self.padding
     }
 
-    /// The character at which the texts of the column may break. `None` if the delimiter of the
-    /// table applies.
+    /// The column's delimiter, the character at which texts of its cells may break. `None` if the
+    /// delimiter of the table applies.
     pub fn column_delimiter(&self) -> Option<char>
         ensures value { result ≡ self.now.delimiter }
         ensures is_column { IsColumn self.now }
@@ -81,38 +83,40 @@ impl Column {
         self.delimiter
     }
 
-    /// The alignment of the column's lines. If it is `None`, they are left-aligned.
+    /// The alignment of lines in cells without an alignment of their own. If the result is `None`,
+    /// these lines are left-aligned.
     pub fn column_alignment(&self) -> Option<CellAlignment>
         ensures { result ≡ self.now.alignment }
     {
         self.alignment
     }
 
-    /// The alignment of the column's lines, as `column_alignment` returns it. This name goes with
-    /// the setter `set_cell_alignment`.
+    /// The alignment of lines in cells without an alignment of their own. If the result is `None`,
+    /// these lines are left-aligned. `column_alignment` returns the same value: this second name
+    /// goes with the setter `set_cell_alignment`.
     pub fn cell_alignment(&self) -> Option<CellAlignment>
         ensures { result ≡ self.now.alignment }
     {
         self.alignment
     }
 
-    /// The constraint on the column's width. `None` if only the content and the arrangement decide
-    /// the width.
+    /// The constraint on the column's width. `None` if no constraint is set: then only the content
+    /// and the arrangement decide the width.
     pub fn constraint(&self) -> Option<&ColumnConstraint>
         ensures { option_copied result ≡ self.now.constraint }
     {
         self.constraint.as_ref()
     }
 
-    /// Returns true if the column isn't drawn.
+    /// Returns true if the column isn't drawn, because its constraint is `Hidden`.
     pub fn is_hidden(&self) -> bool
         ensures { result ≡ is_hidden_column self.now }
     {
         matches!(self.constraint, Some(ColumnConstraint::Hidden))
     }
 
-    /// Sets the terminal columns left free on the left and on the right of the content, in this
-    /// order.
+    /// Sets the paddings of the column: the numbers of free terminal columns on the left and on the
+    /// right of the content, in this order.
     pub fn set_padding(&mut self, padding: (u16, u16)) -> &mut Self
         ensures same_reference { result.ghost_name ≡ self.entry.ghost_name }
         ensures value { result.now ≡ record self.old { padding = padding } }
@@ -129,8 +133,8 @@ impl Column {
         left.saturating_add(right)
     }
 
-    /// Sets the character at which the texts of the column may break. A cell's own delimiter comes
-    /// before it.
+    /// Sets the column's delimiter, the character at which texts of its cells may break. A cell's
+    /// own delimiter takes precedence.
     pub fn set_delimiter(&mut self, delimiter: char) -> &mut Self
         ensures same_reference { result.ghost_name ≡ self.entry.ghost_name }
         ensures value { result.now ≡ record self.old { delimiter = Some delimiter } }
@@ -161,7 +165,8 @@ impl Column {
         self
     }
 
-    /// Sets the alignment of the column's lines. A cell's own alignment comes before it.
+    /// Sets the alignment of the lines in the column's cells. A cell's own alignment takes
+    /// precedence.
     ///
     /// ```
     /// column.set_cell_alignment(CellAlignment::Right);

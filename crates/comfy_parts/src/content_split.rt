@@ -1,4 +1,5 @@
-//! The cutting of texts: their measures, their heads, and the lines that they are wrapped into.
+//! The cutting of texts: their widths in terminal columns, the longest prefixes that fit a width,
+//! and the lines into which texts are wrapped.
 
 ghost use Rattle.std.specs.Prelude.{◌≡◌, [], map, IfOk, IsOk, string_bytes};
 ghost use Rattle.comfy_parts.specs.Text.{elements};
@@ -31,24 +32,26 @@ use std::alloc::Global;
 pub use width::measure_text_width;
 pub(crate) use width::{joined_columns, summed_columns};
 
-/// Splits a line at its delimiters. The parts are in order, and empty ones are kept. The only error
-/// is `OutOfMemory`.
+/// Splits a line at each occurrence of the delimiter. The parts are in order and without
+/// delimiters. A part may be empty, and an empty line has one empty part. The only error is
+/// `OutOfMemory`.
 pub fn split_line_by_delimiter(alloc: Global, line: &str, delimiter: char) -> Result<Vec<&str>>
     ensures { IfOk result (λ v. map (λ x. x.now) v.items ≡ elements delimiter line.now) }
 {
     let mut parts: Vec<&str> = Vec::new(alloc);
     let mut rest = line;
-    while let Some((part, behind)) = rest.split_once(delimiter) {
+    while let Some((part, after)) = rest.split_once(delimiter) {
         parts.push(part)?;
-        rest = behind;
+        rest = after;
     }
     parts.push(rest)?;
     Ok(parts)
 }
 
-/// Wraps a line into lines of the column's content width. Each line begins at the first character
-/// that isn't a delimiter, and only delimiters are left out. This holds for every text and
-/// delimiter, and for every width including 0. The only error is `OutOfMemory`.
+/// Wraps a text line into lines for the content width of `info`. Each line begins at the next
+/// character that isn't a delimiter, and only delimiters are left out between lines. This holds for
+/// every text and delimiter, and for every width including 0. An empty text or one of delimiters
+/// alone has no lines. The only error is `OutOfMemory`.
 pub fn split_line(
     alloc: Global,
     line: &str,
@@ -67,8 +70,8 @@ pub fn split_line(
     Ok(lines)
 }
 
-/// The lines of `split_line`, borrowed from the text. The only error is `OutOfMemory`, and a text
-/// without lines never gives it.
+/// The lines that `split_line` returns, borrowed from the text. The only error is `OutOfMemory`.
+/// There is no error if the text has only delimiters or is empty, because it then has no lines.
 pub fn split_line_ref<'a>(
     alloc: Global,
     line: &'a str,

@@ -24,7 +24,9 @@ pub trait IntoCell: Drop {
     // the cell that the value represents
     ghost cell_of: { Self → CellValue };
 
-    /// Makes the cell. After `OutOfMemory` the value is dropped.
+    /// Makes a cell of the value. A cell is returned unchanged. A text, a number, a truth value or
+    /// a character becomes a cell without settings, with the text that `Display` writes. After
+    /// `OutOfMemory` the value is dropped.
     fn into_cell(self, alloc: Global) -> Result<Cell>
         ensures { IfOk result (λ cell. cell ≡ cell_of self) };
 }
@@ -41,7 +43,8 @@ pub trait IntoCells: Drop {
     // the cells that the value represents
     ghost cells_of: { Self → List CellValue };
 
-    /// Makes the cells, in the order of the list. After `OutOfMemory` the list is dropped.
+    /// Makes one cell of each item, in the order of the list. After `OutOfMemory` the list is
+    /// dropped.
     fn into_cells(self, alloc: Global) -> Result<Cells>
         ensures { IfOk result (λ cells. cells.0.items ≡ cells_of self) };
 }
@@ -55,12 +58,14 @@ pub trait IntoRow: Drop {
     // the row that the value represents
     ghost row_of: { Self → RowValue };
 
-    /// Makes the row. After `OutOfMemory` the value is dropped.
+    /// Makes a row of the value. A row is returned unchanged. A list becomes a row with one cell
+    /// for each item, and without a greatest number of lines (`Row::max_height`). After
+    /// `OutOfMemory` the value is dropped.
     fn into_row(self, alloc: Global) -> Result<Row>
         ensures { IfOk result (λ row. row ≡ row_of self) };
 }
 
-/// Cells in order, which aren't a row yet.
+/// A list of cells in order, of which a row can be made.
 #[derive(Debug, Drop)]
 pub struct Cells(pub Vec<Cell>);
 

@@ -15,8 +15,8 @@ use thiserror::Error;
 /// ```
 #[derive(Clone, Copy, Debug, PartialEq, Eq, Error)]
 pub enum TableError {
-    /// A request for memory was refused. `Cell::new` also returns this if the `Display` of its
-    /// value returns an error.
+    /// A request for memory was refused. `Cell::new` also returns this error if the `Display` of
+    /// its `content` returns an error.
     #[error("out of memory")]
     OutOfMemory,
 }
@@ -37,6 +37,7 @@ impl<T: Drop> From<AllocFailed<T>> for TableError {
     }
 }
 
-/// The result of a call that takes memory. With a second parameter it is the `Result` of `std`, so
-/// that `use comfy_table::*` doesn't hide that one.
+/// The result of a call that takes memory: a value, or a `TableError`. With a second type
+/// parameter, as in `Result<T, E>`, this is the `Result` of `std`. So code with `use
+/// comfy_table::*` can still write the results of other calls.
 pub type Result<T, E = TableError> = std::result::Result<T, E>;

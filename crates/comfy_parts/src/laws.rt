@@ -1,7 +1,7 @@
 //! Laws of wrapping beyond its definition, and laws of comparisons. Each function does nothing: its
 //! clauses are the law. "Lines" are the lines that `split_line` returns, for every text, every
-//! width `w` in terminal columns and every delimiter `d`. "In printable ASCII" means that text and
-//! delimiter are printable ASCII, and that the width is at least 1.
+//! width `w` in terminal columns and every delimiter `d`. "Elements" are the parts of a text
+//! between delimiters.
 
 ghost use Rattle.std.specs.Prelude.{◌≡◌, All, true, ℕ, List, []};
 ghost use Rattle.std.specs.Char.{IsScalar};
@@ -13,169 +13,193 @@ ghost use Rattle.comfy_parts.specs.Laws.{ActiveIsResumed, ClosedTextsLeaveNone, 
 ghost use Rattle.comfy_parts.specs.Text.{Text};
 ghost use Rattle.comfy_parts.specs.Wrapping.{IsWrapped};
 
-/// Every text has exactly one list of wrapped lines. These are slices of the text, and only
-/// delimiters are left out.
+/// The text, the width and the delimiter determine the list of wrapped lines. The lines are slices
+/// of the text, in order. Only delimiters are left out before, between and after them.
 pub fn wrapped_lines_are_one_list()
     ensures one { (w d : ℕ) (text : Text) (lines : List Text) → WrappedIsOne w d text lines }
     ensures some { (w d : ℕ) (text : Text) → WrappedIsWrapped w d text }
 {}
 
-/// The end of a line, stated by sums over the elements of its text. If the first element is wider
-/// than `w`, the line is the head of that element, or its first character if the head is empty.
-/// Otherwise the line ends after the first element for which one of these holds:
+/// A wrapped line of any text ends by the following rule. An element is a part of the text between
+/// delimiters, and `w` is the width of a line. The head of an element for k terminal columns is its
+/// longest prefix of whole grapheme clusters whose widths add up to at most k. If the first element
+/// from the line's start is wider than `w`, the line is the head of that element for `w` columns.
+/// If that head is empty, the line is the element's first character. Otherwise the line ends after
+/// the first element for which one of these conditions holds:
 ///
 /// - more than `w - 2` terminal columns are filled
 /// - no element is left
 /// - the next element has no room after one terminal column for the delimiter
 ///
-/// If this next element is wider than `w`, and four terminal columns are free, the line also takes
-/// the delimiter, and the head of the element for all free columns except one.
+/// After this element the line takes more, if the next element is wider than `w` and at least four
+/// terminal columns are free. It takes the delimiter, and the head of the next element for all free
+/// columns except one.
 pub fn lines_end_at_the_first_full_element()
     ensures fitting { (w d : ℕ) (text : Text) → FittingLinesEndAtFirst w d text }
     ensures wide { (w d : ℕ) (text : Text) → WideElementsAreCut w d text }
 {}
 
-/// At the end of a line the text ends, a delimiter follows, or the line ends in an element that is
-/// wider than the line's width.
+/// An element, which is a part of a text between delimiters, isn't cut if it fits the width. After
+/// each wrapped line the text ends, a delimiter follows, or the element at the line's end is wider
+/// than the width.
 #[tactic(auto, using(crate::proofs::UncutLemmas::is_cut_outside_narrow))]
 pub fn narrow_elements_stay_whole()
     ensures { (w d : ℕ) (text : Text) (lines : List Text) → IsScalar d → IsWrapped w d text lines
         → IsCutOutsideNarrow w d [] text lines }
 {}
 
-/// In printable ASCII each line fits its width.
+/// A wrapped line isn't wider than the width, if text and delimiter are printable ASCII and the
+/// width is at least 1.
 #[tactic(auto, using(crate::proofs::CutLineLemmas::lines_fit))]
 pub fn lines_fit()
     ensures { (w d : ℕ) (text : Text) (lines : List Text) → IsWrapped w d text lines
         → LinesFit w d text lines }
 {}
 
-/// In printable ASCII two neighbouring lines together fill at least the width of one line.
+/// Two neighbouring wrapped lines together are at least as wide as the width, if text and delimiter
+/// are printable ASCII and the width is at least 1.
 #[tactic(auto, using(crate::proofs::NeighbourLemmas::neighbours_fill_a_line))]
 pub fn neighbours_fill_a_line()
     ensures { (w d : ℕ) (text : Text) (lines : List Text) → IsWrapped w d text lines
         → NeighboursFillALine w d text lines }
 {}
 
-/// In printable ASCII a text of n characters has at most 2 q + 1 lines, where q is n / w, rounded
-/// down.
+/// A text of n characters is wrapped into at most 2 q + 1 lines, if text and delimiter are
+/// printable ASCII and the width `w` is at least 1. Here q is n / w, rounded down.
 #[tactic(auto, using(crate::proofs::NeighbourLemmas::lines_are_few))]
 pub fn lines_are_few()
     ensures { (w d : ℕ) (text : Text) (lines : List Text) → IsWrapped w d text lines
         → LinesAreFew w d text lines }
 {}
 
-/// In printable ASCII a line that ends inside an element fills the whole width.
+/// A wrapped line that ends inside an element fills the whole width, if text and delimiter are
+/// printable ASCII and the width is at least 1. An element is a part of the text between
+/// delimiters.
 #[tactic(auto, using(crate::proofs::CutLineLemmas::cut_lines_are_full))]
 pub fn cut_lines_are_full()
     ensures { (w d : ℕ) (text : Text) (lines : List Text) → IsWrapped w d text lines
         → CutLinesAreFull w d text lines }
 {}
 
-/// In printable ASCII, if each element fits a line, no other division into lines that fit and that
-/// cut no element has fewer lines.
+/// A text is wrapped into as few lines as possible, if text and delimiter are printable ASCII, the
+/// width is at least 1, and each element fits a line. Elements are the parts of the text between
+/// delimiters. No division of the text into lines that fit and that cut no element has fewer lines.
 #[tactic(auto, using(crate::proofs::FewestLemmas::lines_are_fewest))]
 pub fn lines_are_fewest()
     ensures { (w d : ℕ) (text : Text) (lines : List Text) → IsWrapped w d text lines
         → LinesAreFewest w d text lines }
 {}
 
-/// The head that `split_long_word` returns is the longest prefix of whole grapheme clusters that
-/// fits its terminal columns.
+/// The head that `split_long_word` returns is the longest prefix of whole grapheme clusters whose
+/// widths add up to at most the allowed width.
 #[tactic(auto, using(crate::proofs::HeadLemmas::head_is_longest))]
 pub fn head_is_longest()
     ensures { (k : ℕ) (text : Text) → HeadIsLongest k text }
 {}
 
-/// Between any two texts, of every script, a space adds one terminal column. Box and block
-/// characters, `…`, and printable ASCII except `#`, `*` and the digits also do. No text joins a
-/// text that begins with such a character.
+/// A space between any two texts adds one terminal column to their widths, in every script. So does
+/// each box or block character, `…`, and each printable ASCII character except `#`, `*` and the
+/// digits. If a text begins with such a character, its width and the width of any text before it
+/// add up.
 pub fn spaces_and_borders_add_one_column()
     ensures space { (front back : Text) → SpaceAddsOneColumn front back }
     ensures border { (c : ℕ) → FrameCharactersAddOneColumn c }
     ensures apart { (c : ℕ) (rest : Text) → FrameTextsAreApart c rest }
 {}
 
-/// By itself U+17D8 takes three terminal columns, and every other character takes at most two. So
-/// `characters_fit(text, 2)` is true if U+17D8 doesn't occur, and U+FE01 is never directly next to
-/// U+FE0E or U+FE0F.
+/// U+17D8 by itself takes three terminal columns, and every other character by itself takes at most
+/// two. So `characters_fit(text, 2)` is true if the text has no U+17D8, and if U+FE01 is never
+/// directly next to U+FE0E or U+FE0F in it.
 pub fn one_character_takes_three_columns()
     ensures three { OneCharacterTakesThree }
     ensures others { (c : ℕ) → TakesTwoAtMost c }
 {}
 
-/// Each character of each preset adds one terminal column, also with rounded corners, with solid
-/// inner borders, and with both.
-pub fn presets_have_columns_of_one()
+/// Each character of each preset adds one terminal column between any two texts. The same holds for
+/// presets with rounded corners, with solid inner borders, and with both.
+pub fn preset_characters_take_one_column()
     ensures { All IsOneColumnPreset presets_all }
 {}
 
-/// A text line fits its width if the line or each of its words does, and so does each line that it
-/// is wrapped into. A word fits if it isn't wider than the width. It also fits if each of its
-/// characters does, and U+FE01 is never directly next to U+FE0E or U+FE0F. If words count, the
-/// delimiter must add one terminal column. A head never measures more than its terminal columns if
-/// the selectors of its text agree in this way.
-pub fn lines_of_every_script_fit()
+/// A line into which a text line is wrapped isn't wider than the width, if the text line fits the
+/// width.
+///
+/// A text line fits if it isn't wider than the width. It also fits if each of its words fits, and
+/// the delimiter adds one terminal column between any texts (`adds_one_column`). A word fits if it
+/// isn't wider than the width, or if `characters_fit` is true for it. So a text line also fits if
+/// `characters_fit` is true for it, and the delimiter adds one terminal column.
+///
+/// The head for k terminal columns, as `split_long_word` returns it, measures at most k, if U+FE01
+/// is never directly next to U+FE0E or U+FE0F in the text.
+pub fn lines_of_fitting_texts_fit()
     ensures lines { (w d : ℕ) (text : Text) → TextLinesFit w d text }
     ensures characters { (w d : ℕ) (text : Text) → FittingCharactersFit w d text }
     ensures heads { (k : ℕ) (text : Text) → HeadFits k text }
 {}
 
-/// Printable ASCII measures its length, and each of its characters is a grapheme cluster.
+/// A printable ASCII text takes one terminal column for each of its bytes, and each of its
+/// characters is a grapheme cluster.
 pub fn printable_measures_its_length()
     ensures measure { (text : Text) → PrintableMeasuresItsLength text }
     ensures clusters { (text : Text) → PrintableClustersAreCharacters text }
 {}
 
-/// After any printable ASCII text, a printable ASCII indicator adds one terminal column for each of
-/// its characters.
+/// A truncation indicator of printable ASCII adds one terminal column for each of its characters,
+/// if it follows a printable ASCII text.
 pub fn printable_adds_one_column_each()
     ensures { (indicator : Text) → PrintableAddsOneColumnEach indicator }
 {}
 
-/// The lines of a cell, joined in order, have all characters of its text lines, in order, except
-/// delimiters.
+/// The lines of a cell have all characters of its text lines except delimiters, in the same order.
+/// Text lines are the parts of the cell's text between line feeds, and each text line is wrapped
+/// into lines.
 #[tactic(auto, using(crate::proofs::KeptLemmas::lines_keep_the_text))]
 pub fn lines_keep_the_text()
     ensures { (w d : ℕ) (text_lines : List Text) → LinesKeepTheText w d text_lines }
 {}
 
-/// The visible text, stated in one pass: a sequence at the front is left out, any other first byte
-/// is kept, and the pass goes on after it.
+/// The visible text of a text, which is the text without its colour sequences, is found in one
+/// pass. A sequence at the front is left out, any other first byte is visible, and the pass
+/// continues with the rest of the text.
 pub fn sequences_are_taken_out_in_one_pass()
     ensures sequence { (code rest : Text) → SequencesAreTakenOut code rest }
     ensures visible { (b : ℕ) (rest : Text) → OtherBytesAreVisible b rest }
 {}
 
-/// The lines of a cell with sequences are the lines of its visible texts. The text that is written
-/// for a line, without its sequences, is the line.
-pub fn sequences_count_nothing()
+/// The lines of a cell with colour sequences are the lines of its visible texts, which are its text
+/// lines without the sequences. The text that is written for a line, without its sequences, is that
+/// line.
+pub fn sequences_take_no_columns()
     ensures lines { (w d : ℕ) (text_lines : List Text) → LinesAreVisible w d text_lines }
     ensures written { (w d : ℕ) (text_lines : List Text) → SequencesLeaveTheLines w d text_lines }
 {}
 
-/// At the end of a line no sequence is open, even if the line is cut.
+/// No colour sequence is open at the end of the text that is written for a line, even if the line
+/// is cut by its row's greatest height. A sequence is open until the next `ESC[0m`.
 pub fn lines_leave_no_sequence_open()
     ensures lines { (w d : ℕ) (text_lines : List Text) → NoneIsLeftOpen w d text_lines }
     ensures cut { (text : Text) → ClosedTextsLeaveNone text }
 {}
 
-/// Before each visible character of a written line, the open sequences are those that are open at
-/// this character in its cell.
+/// The colour sequences that are open before a visible character in the text that is written for a
+/// line are those that are open at this character in its cell. A sequence is open until the next
+/// `ESC[0m`, also in later text lines of the cell.
 pub fn active_sequences_are_resumed()
     ensures text { (earlier : List Text) (text : Text) (start len k : ℕ)
         → ActiveIsResumed earlier text start len k }
     ensures lines { (w d : ℕ) (text_lines : List Text) → LinesAreResumed w d text_lines }
 {}
 
-/// Two cells are equal exactly if their values are the same. Equal cells hash alike.
+/// Two cells are equal exactly if their text lines and their settings are the same. Equal cells
+/// have equal hashes.
 pub fn cells_are_equal_by_their_values()
     ensures eq { EqIsSame cell_eq }
     ensures hash { EqHashesAlike cell_eq cell_hash }
 {}
 
-/// Attributes are equal under `==`, and in their order, exactly if they are the same. The order is
-/// total and transitive, and is that of their declaration. Equal attributes hash alike.
+/// `==` and the order of attributes call two attributes equal exactly if they are the same. The
+/// order is total and transitive: it is the order in which `Attribute` declares its variants. Equal
+/// attributes have equal hashes.
 pub fn attributes_are_ordered()
     ensures eq { EqIsSame attribute_eq }
     ensures equal { EqualIsSame attribute_cmp }
@@ -184,8 +208,9 @@ pub fn attributes_are_ordered()
     ensures hash { EqHashesAlike attribute_eq attribute_hash }
 {}
 
-/// Colours are equal under `==`, and in their order, exactly if they are the same. The order is
-/// total and transitive, and is that of their declaration. Equal colours hash alike.
+/// `==` and the order of colours call two colours equal exactly if they are the same. The order is
+/// total and transitive: it is the order in which `Color` declares its variants. Equal colours have
+/// equal hashes.
 pub fn colors_are_ordered()
     ensures eq { EqIsSame color_eq }
     ensures equal { EqualIsSame color_cmp }

@@ -1,8 +1,9 @@
 //! The parts of a table: styles, cells, rows, columns, and the cutting of texts into lines.
 //!
-//! The functions of `laws`, and `presets_are_as_tabled`, have empty bodies and do nothing when they
-//! run. They exist because a clause can be proved only on a function, and another proof gets the
-//! clause by a call of that function. Their clauses are laws that no other function has.
+//! The functions of `laws`, and `presets_are_as_defined`, have empty bodies and do nothing when
+//! they run. Their clauses `ensures` are laws, that is proved facts that hold for all values. A
+//! clause can be proved only on a function, and another proof uses the clause by a call of that
+//! function.
 #![tactic(auto)]
 
 pub mod cell;

@@ -5,7 +5,7 @@ ghost use Rattle.comfy_parts.specs.TextPieces.{IsNextPiece, text_left};
 
 use std::alloc::{AllocError, Global};
 
-/// A text that comes in pieces.
+/// A text that is returned piece by piece. The pieces, joined in order, are the text.
 pub trait Pieces {
     // the bytes of all pieces that are still to come, joined
     ghost rest: { Self → List ℕ };
@@ -13,9 +13,9 @@ pub trait Pieces {
     // true if the whole rest is in memory, so that `next_piece` takes no memory and can't fail
     ghost is_whole: { Bool };
 
-    /// Returns the next piece, which isn't empty, or `None` after the last one. An error comes only
-    /// before the end of the text. After an error nothing is left: each further call returns
-    /// `None`.
+    /// Returns the next piece, which is never empty, or `None` after the last piece. The only error
+    /// is that memory runs out. It comes only if a part of the text is left. After an error that
+    /// part is lost: each further call returns `None`.
     fn next_piece(&mut self) -> Result<Option<String>, AllocError>
         ensures next { IfOk result (IsNextPiece (rest self.old) (rest self.new)) }
         ensures refused { OnErr result (is_whole ≡ false) }

@@ -50,7 +50,7 @@ impl Model for Row {
 }
 
 impl Row {
-    /// A row without cells. It takes no memory.
+    /// A row without cells. The call takes no memory.
     pub fn new(alloc: Global) -> Row
         ensures { result ≡ plain_row [] }
     {
@@ -70,7 +70,8 @@ impl Row {
     }
 
     /// Appends a cell, and returns the row for further calls. After `OutOfMemory` the row is
-    /// unchanged and the cell is dropped. Proofs of callers can use this only after `try_add_cell`.
+    /// unchanged and the cell is dropped. To use this fact in a proof of your own, call
+    /// `try_add_cell` instead.
     pub fn add_cell(&mut self, cell: Cell) -> Result<&mut Self>
         ensures* err { sem 𝓛 (RowStaysIfErr self.entry result) }
         ensures same_reference { IfOk result (λ row. row.ghost_name ≡ self.entry.ghost_name) }
@@ -79,7 +80,7 @@ impl Row {
         into_reference(self.with_cell_added(cell))
     }
 
-    // Does what `add_cell` does, and returns the reference in a struct. The clause `err` can be
+    // Does the same as `add_cell`, but returns the reference in a struct. The clause `err` can be
     // proved only with the struct.
     fn with_cell_added(&mut self, cell: Cell) -> Result<RowReference<'_>>
         ensures* err { sem 𝓛 (RowStaysIfErr self.entry (reference_of result)) }
@@ -91,8 +92,8 @@ impl Row {
         Ok(RowReference { row: self })
     }
 
-    /// Appends a cell, for callers that still need the row after `OutOfMemory`. Then the row is
-    /// unchanged and the cell is dropped, and proofs of callers can use this.
+    /// Appends a cell. After `OutOfMemory` the row is unchanged and the cell is dropped. Unlike
+    /// after `add_cell`, a proof of your own can use this fact.
     pub fn try_add_cell(&mut self, cell: Cell) -> Result<()>
         ensures ok { OnOk result (self.new ≡ with_cell cell self.old) }
         ensures err { OnErr result (self.new ≡ self.old) }
@@ -104,8 +105,8 @@ impl Row {
     }
 
     /// Sets the greatest number of lines that are drawn of each cell; 0 counts as 1. If a cell has
-    /// more lines, only the first ones are drawn. The last of these ends with the table's
-    /// truncation indicator, unless the indicator is wider than the column.
+    /// more lines, only the first `lines` lines are drawn. The last line that is drawn ends with
+    /// the table's truncation indicator, unless the indicator is wider than the column.
     ///
     /// ```
     /// let mut row = ["17", "rented\nreturned\nrented"].into_row(alloc)?;
@@ -126,7 +127,7 @@ impl Row {
         self
     }
 
-    /// The number of cells.
+    /// The number of cells in the row, also in hidden columns.
     pub fn cell_count(&self) -> usize
         ensures value { result ≡ length self.now.cells }
         ensures is_row { IsRow self.now }
@@ -143,7 +144,7 @@ impl Row {
         self.max_height
     }
 
-    /// Iterates over the cells in order.
+    /// Iterates over the cells of the row in order.
     pub fn cell_iter(&self) -> slice::Iter<'_, Cell>
         ensures rest { iter_rest result ≡ self.now.cells }
         ensures runs { IterYieldsInOrder CellValue }
@@ -164,7 +165,7 @@ impl Clone for Row {
     }
 }
 
-// Proof only: each cell keeps its invariant.
+// Proof only: shows that the invariant of a cell holds for each of these cells.
 fn look_at(cells: &[Cell])
     ensures { All IsCell cells.now }
 {

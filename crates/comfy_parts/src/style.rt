@@ -1,4 +1,5 @@
-//! The look of a table: its frame, and how cells are placed and coloured. None of it takes memory.
+//! The look of a table: the frame, the widths of columns, and the alignment, colours and attributes
+//! of texts. Nothing here takes memory.
 
 pub mod attribute;
 pub mod cell;

@@ -23,7 +23,7 @@ is_short_number argument =
     list_all is_ascii_digit argument && nat_lt 0 (length argument) && nat_le (length argument) 5
     && nat_le (digits_value 10 argument) 65535
 
--- the number of such digits; `None` for other texts
+-- the number of a text of one to five digits, at most 65535; `None` for other texts
 abbrev pub number_for : Text → Option ℕ
 number_for argument = if is_short_number argument then Some (digits_value 10 argument) else None
 
@@ -38,14 +38,14 @@ arrangement_for =
     beside ((codes "disabled", Disabled) ∷ (codes "dynamic", Dynamic)
     ∷ (codes "full", DynamicFullWidth) ∷ [])
 
--- the settings of these parts, if each of them is known
+-- the settings of this width, arrangement and style, if each of the three is known
 abbrev pub settings_with : Option (Option ℕ) → Option ContentArrangement → Option TableStyle
     → Option Settings
 settings_with (Some width) (Some arrangement) (Some style) =
     Some (record { width = width; arrangement = arrangement; style = style })
 settings_with _ _ _ = None
 
--- the settings that the arguments mean: a width, an arrangement and a style, of which the last ones
+-- the settings that the arguments mean: a width, an arrangement and a style; arguments at the end
 -- may be missing
 abbrev pub settings_for : List (Bor Text) → Option Settings
 settings_for [] = Some default_settings

@@ -9,7 +9,7 @@ use Rattle.comfy_table.specs.Headline.{TerminatesLines}
 use Rattle.comfy_table.specs.TableValue.{TableValue, new_table, with_header, with_row}
 use Rattle.comfy_run.specs.Rows.{row_of_line}
 
--- the first line is the header, the others are rows
+-- the table with a header made from the first line, and rows made from the others
 abbrev pub table_of_lines : TableValue → List Text → TableValue
 table_of_lines table [] = table
 table_of_lines table (first ∷ others) =
@@ -17,14 +17,14 @@ table_of_lines table (first ∷ others) =
     (with_header (row_of_line first) table) others
 
 -- the table of an input with these settings; a carriage return before a line feed isn't part of a
--- line, and an empty last piece isn't a line
+-- line, and after a line feed at the end there is no further line
 abbrev pub input_table : Option ℕ → ContentArrangement → TableStyle → Text → TableValue
 input_table width arrangement style text =
     table_of_lines (record (new_table style) { set_width = width; arrangement = arrangement })
     (lines text)
 
--- the bytes that are written for an input are a drawing of its table, with all clauses of a
--- drawing, and each line is ended by a line feed
+-- the bytes that are written for an input are a drawing of its table (`IsTableDrawing`), with a
+-- line feed after each line
 abbrev pub RendersInput : Option ℕ → ContentArrangement → TableStyle → Text → Text → Type 0
 RendersInput width arrangement style text output =
     TerminatesLines (input_table width arrangement style text) output

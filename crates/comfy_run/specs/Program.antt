@@ -1,4 +1,4 @@
--- The status and the messages of the program, by the result of its run.
+-- The exit status and the messages of the program, according to the result of `run`.
 -- Source: this library's own.
 use Rattle.std.specs.Prelude.{◌≡◌, ℕ, Bool, false, [], ◌++◌, Option, Some, Result, Ok, Err, codes}
 use Rattle.comfy_parts.specs.Text.{Text}
@@ -17,12 +17,12 @@ error_line Write = codes "ctable: the output can't be written\n"
 error_line NotUtf8 = codes "ctable: the input isn't UTF-8\n"
 error_line (Table OutOfMemory) = codes "ctable: out of memory\n"
 
--- the status after a run
+-- the exit status for a result of `run`
 abbrev pub status_of : {T : Type 0} → Result T RunError → ℕ
 status_of (Ok _) = 0
 status_of (Err _) = 1
 
--- the message after a run
+-- the message for a result of `run`; empty after success
 abbrev pub report_of : {T : Type 0} → Result T RunError → Text
 report_of (Ok _) = []
 report_of (Err error) = error_line error

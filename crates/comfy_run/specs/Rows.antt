@@ -1,4 +1,4 @@
--- The row of a line of input, which has TABs between cells.
+-- The row of a line of input: TABs separate its cells.
 -- Source: this library's own.
 use Rattle.std.specs.Prelude.{ℕ, ◌==◌, List, map, if◌then◌else◌}
 use Rattle.std.specs.List.{slice_split}

@@ -1,4 +1,4 @@
--- The contract of a call of `run`, by its result.
+-- The contract of a call of `run`, for each result.
 -- Source: this library's own.
 use Rattle.std.specs.Prelude.{Bool, true, false, Result, Ok, Err, IsUtf8}
 use Rattle.comfy_parts.specs.Text.{Text}
@@ -33,7 +33,7 @@ IsDrawnIn settings extent input output = OfWhole (IsDrawnFrom settings input out
 abbrev pub IsRefusalIn : Extent → Text → RunError → Type 0
 IsRefusalIn extent input e = OfWhole (IsRefusal input e) extent
 
--- the facts of a call, by its result
+-- the facts after a call, for each result
 abbrev pub IsAfter : {T : Type 0} → Settings → Result T RunError → RunFacts → Type 0
 IsAfter settings (Ok _) facts = IsAfterOk (IsDrawnFrom settings) facts
 IsAfter settings (Err Read) facts = IsAfterRead facts
@@ -51,7 +51,7 @@ abbrev pub is_write_fault : {T : Type 0} → Result T RunError → Bool
 is_write_fault (Err Write) = true
 is_write_fault _ = false
 
--- the error of a run that stopped
+-- the error of `run` for each reason for which `devices::run` stops
 abbrev pub run_error_of : Stop RunError → RunError
 run_error_of stop.Read = Read
 run_error_of stop.Write = Write

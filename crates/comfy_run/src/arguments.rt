@@ -12,9 +12,10 @@ use comfy_parts::style::presets::by_name;
 
 const MOST_DIGITS: usize = 5;
 
-/// The settings that the arguments after the program's name mean. `None` if an argument is unknown,
-/// or there are more than three. Without an argument, the width isn't set, the arrangement is
-/// `Disabled`, and the style is `ASCII_FULL`.
+/// The settings that the arguments after the program's name mean: a width, an arrangement and a
+/// preset. `None` if an argument is unknown, or there are more than three arguments. Arguments at
+/// the end may be missing: then the width isn't set, the arrangement is `Disabled`, and the style
+/// is `ASCII_FULL`.
 pub fn settings_of(args: &[&str]) -> Option<Settings>
     ensures { result ≡ settings_for args.now }
 {
@@ -42,8 +43,8 @@ fn width_of(argument: &str) -> Option<Option<u16>>
     number_of(argument).map(Some)
 }
 
-// A number of one to five digits, at most 65535. `parse` alone would also accept a plus sign and
-// more zeros.
+// The number of a text of one to five digits, at most 65535; `None` for any other text. `parse`
+// alone would also accept a plus sign and more zeros.
 fn number_of(argument: &str) -> Option<u16>
     ensures { result ≡ number_for argument.now }
 {

@@ -1,4 +1,4 @@
-//! The reasons why a run stopped.
+//! The errors of `run`.
 
 ghost use Rattle.std.specs.Prelude.{◌≡◌};
 ghost use Rattle.comfy_parts.specs.declared.error.TableError.TheVariants.{OutOfMemory};
@@ -10,19 +10,19 @@ use devices::Stop;
 use std::alloc::AllocError;
 use thiserror::Error;
 
-/// The reason why a run stopped.
+/// The reason why a call of `run` failed. `run` reads a source, and writes its drawing to a sink.
 #[derive(Clone, Copy, Debug, PartialEq, Eq, Error)]
 pub enum RunError {
-    /// The source failed during the call.
+    /// A call of the source failed, so the input wasn't read to its end. Nothing was written.
     #[error("the input can't be read")]
     Read,
-    /// The sink failed during the call.
+    /// A call of the sink failed, so only a beginning of the drawing was written, perhaps no byte.
     #[error("the output can't be written")]
     Write,
-    /// The input isn't UTF-8.
+    /// The input isn't UTF-8. Nothing was written.
     #[error("the input isn't UTF-8")]
     NotUtf8,
-    /// The table couldn't be built or drawn.
+    /// The table couldn't be built or drawn, because memory ran out. Nothing was written.
     #[error("{0}")]
     Table(TableError),
 }

@@ -1,4 +1,4 @@
-//! From tab-separated bytes to a drawn table.
+//! Draws tab-separated text as a table: the functions of the program `ctable`.
 #![tactic(auto)]
 
 mod arguments;

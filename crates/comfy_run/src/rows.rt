@@ -1,4 +1,4 @@
-//! The row of an input line, whose cells have TABs between them.
+//! The row of an input line: TABs separate its cells.
 
 ghost use Rattle.std.specs.Prelude.{◌≡◌, IfOk, false, map, nat_lt, string_bytes, take, if◌then◌else◌};
 ghost use Rattle.std.specs.List.{list_any};
@@ -10,15 +10,16 @@ use comfy_parts::content_split::has_control;
 use comfy_parts::{Cell, Cells, IntoRow, Result, Row};
 use std::alloc::Global;
 
-// The character of the input for a line feed inside a cell.
+// The character of the input that means a line feed inside a cell.
 const BREAK: char = '\u{b}';
 
 // The number of bytes that are tested together.
 const BLOCK: usize = 16;
 
-/// Makes the row of a line. TABs are between its cells, and U+000B inside a cell is a line feed.
-/// The row's list has room for `count` cells at first. So it takes no more memory than it needs if
-/// the line has as many cells as the line before it. The only error is `OutOfMemory`.
+/// Makes the row of a line. TABs separate the cells of the line, and U+000B inside a cell means a
+/// line feed. Memory for `count` cells is taken first, usually the number of cells in the line
+/// before. If the line has exactly `count` cells, the row takes no more memory than it needs. The
+/// only error is `OutOfMemory`.
 pub fn row_of(alloc: Global, line: &str, count: usize) -> Result<Row>
     ensures { IfOk result (λ row. row ≡ row_of_line line.now) }
 {
@@ -36,7 +37,8 @@ pub fn row_of(alloc: Global, line: &str, count: usize) -> Result<Row>
     }
 }
 
-// The number of bytes before the first TAB, and true if U+000B may be among them.
+// The number of bytes before the first TAB, or of all bytes if there is no TAB, and true if U+000B
+// may be among these bytes.
 fn first_part(bytes: &[u8]) -> (usize, bool)
     ensures part { IsFirstPart bytes.now result.0 }
     ensures breaks { result.1 ≡ false
@@ -50,7 +52,8 @@ fn first_part(bytes: &[u8]) -> (usize, bool)
     (len, len > clear)
 }
 
-// The number of bytes at the front without a control character.
+// The number of bytes before the first control character (a byte below 0x20), or of all bytes if
+// there is none.
 fn clear_run(bytes: &[u8]) -> usize
     ensures { IsClearFront bytes.now result }
 {
@@ -61,8 +64,8 @@ fn clear_run(bytes: &[u8]) -> usize
     run
 }
 
-// The number of bytes at the front that are in whole blocks without a control character. The bytes
-// of a block are read without a test between them, which is faster in long texts.
+// The number of bytes at the beginning that are in whole blocks without a control character. The
+// bytes of a block are read without a test between them, which is faster in long texts.
 fn clear_blocks(bytes: &[u8]) -> usize
     ensures { IsClearFront bytes.now result }
 {
@@ -73,8 +76,8 @@ fn clear_blocks(bytes: &[u8]) -> usize
     run
 }
 
-// Makes the cell of a text between TABs. If `has_breaks` is set, each U+000B in it becomes a line
-// feed.
+// Makes the cell of a text between TABs. If `has_breaks` is true, each U+000B of the text becomes a
+// line feed.
 fn cell_of(alloc: Global, part: &str, has_breaks: bool) -> Result<Cell>
     ensures { IfOk result (λ cell. cell
         ≡ plain_cell (if has_breaks then map break_of part.now else part.now)) }

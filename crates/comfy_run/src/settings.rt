@@ -13,10 +13,10 @@ use comfy_parts::style::{ContentArrangement, TableStyle};
 /// ```
 #[derive(Clone, Copy, Debug)]
 pub struct Settings {
-    /// The width of the table in terminal columns. `None` if it isn't set.
+    /// The width of the table in terminal columns; `None` if no width is set.
     pub width: Option<u16>,
-    /// The way to find the widths of the columns. The dynamic arrangements keep to the width, and
-    /// are the same as `Disabled` without one.
+    /// The rule by which the widths of the columns are found. The dynamic arrangements keep to the
+    /// table's width, and act as `Disabled` if no width is set.
     pub arrangement: ContentArrangement,
     /// The characters of the frame.
     pub style: TableStyle,

@@ -46,8 +46,8 @@ pub first_from : (all : List ℕ) (at x : ℕ) (numbers : List ℕ) → AreFrom 
 first_from all at x numbers each = let moved : at ≡ at + 0 = omega arith in ap (slice_index all) moved ∙ each 0
 
 -- the elements after it are the other numbers
-pub behind_first : (all : List ℕ) (at x : ℕ) (numbers : List ℕ) → AreFrom all at (x ∷ numbers) → AreFrom all (at + 1) numbers
-behind_first all at x numbers each i = let moved : at + 1 + i ≡ at + suc i = omega arith in ap (slice_index all) moved ∙ each (suc i)
+pub after_first : (all : List ℕ) (at x : ℕ) (numbers : List ℕ) → AreFrom all at (x ∷ numbers) → AreFrom all (at + 1) numbers
+after_first all at x numbers each i = let moved : at + 1 + i ≡ at + suc i = omega arith in ap (slice_index all) moved ∙ each (suc i)
 
 -- the hidden columns have their contents' widths
 hidden_given : (table : TableValue) (all widths : List ℕ) (at : ℕ) (columns : List ColumnValue) → AreFrom all at (given_in_order table widths (enumerate_from at columns))
@@ -69,8 +69,8 @@ hidden_given table all widths at (column ∷ columns) each =
         → AreFrom all at (cond b (own (at, column) ∷ given_in_order table widths (enumerate_from (at + 1) columns)) (slice_index_or widths 0 1 ∷ given_in_order table (drop 1 widths) (enumerate_from (at + 1) columns)))
         → widths_at all (cond b ((at, column) ∷ later) later) ≡ map own (cond b ((at, column) ∷ later) later)
     by_test true hidden visible these =
-        ap₂ (λ (x : ℕ) (xs : List ℕ). x ∷ xs) (first_from all at _ _ these) (hidden (behind_first all at _ _ these))
-    by_test false hidden visible these = visible (behind_first all at _ _ these)
+        ap₂ (λ (x : ℕ) (xs : List ℕ). x ∷ xs) (first_from all at _ _ these) (hidden (after_first all at _ _ these))
+    by_test false hidden visible these = visible (after_first all at _ _ these)
 
 -- the shown columns have the given widths, if there is one for each
 shown_given : (table : TableValue) (all widths : List ℕ) (at : ℕ) (columns : List ColumnValue) → AreFrom all at (given_in_order table widths (enumerate_from at columns))
@@ -91,10 +91,10 @@ shown_given table all widths at (column ∷ columns) each enough =
         → ((vs : List ℕ) → AreFrom all (at + 1) (given_in_order table vs (enumerate_from (at + 1) columns)) → length vs ≡ length later → widths_at all later ≡ vs)
         → AreFrom all at (from_here b ws) → length ws ≡ length (cond (not b) ((at, column) ∷ later) later)
         → widths_at all (cond (not b) ((at, column) ∷ later) later) ≡ ws
-    by_test true ws rest these some = rest ws (behind_first all at _ _ these) some
+    by_test true ws rest these some = rest ws (after_first all at _ _ these) some
     by_test false [] rest these some = absurd (omega arith)
     by_test false (w ∷ ws) rest these some =
-        ap₂ (λ (x : ℕ) (xs : List ℕ). x ∷ xs) (first_from all at _ _ these) (rest ws (behind_first all at _ _ these) (omega arith))
+        ap₂ (λ (x : ℕ) (xs : List ℕ). x ∷ xs) (first_from all at _ _ these) (rest ws (after_first all at _ _ these) (omega arith))
 
 -- ---- a dynamic arrangement
 

@@ -26,7 +26,7 @@ breaks_kept =
       of_closed = λ text clear. breaks_are_visible (closed text) (subst HasNoBreak (sym (visible-closed text)) (HasNo-visible 0x0A text clear));
     }
 
--- so no line of a drawing has one
+-- so no line of a drawing has a line feed
 pub without_breaks : (table : TableValue) (widths : List ℕ) → All (IsRowOf IsUtf8) (measured_rows table) → All (IsRowOf HasNoBreak) (measured_rows table) → HasUnbrokenStyle table → All HasNoBreak (drawing table widths)
 without_breaks table widths whole clear style =
     All-from_recursion HasNoBreak (drawing table widths)

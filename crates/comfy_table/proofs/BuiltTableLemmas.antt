@@ -77,7 +77,7 @@ module _ (base : TableValue) (P : RowValue → Type 0) where
     pub characters_known : All IsOneColumn (style_characters base.style) → All IsOneColumn (style_characters table.style)
     characters_known = subst (λ (style : TableStyle). All IsOneColumn (style_characters style)) (sym (ap (λ (t : TableValue). t.style) known.is))
 
--- such a table is straight, if its rows are short and it keeps to no width
+-- a table that is built in this way is straight, if its rows are short and it keeps to no width
 pub built_is_straight : (base : TableValue) (plain : base.custom_styling ≡ false) (table : TableValue) (widths : List ℕ) → IsBuilt base IsShortRow table → All IsOneColumn (style_characters base.style)
     → width_kept table.arrangement (table_width table) ≡ None → IsStraightTable table widths
 built_is_straight base plain table widths known characters no_width =
@@ -95,7 +95,7 @@ built_is_straight base plain table widths known characters no_width =
           short = All-weaker IsShortRow (λ (row : RowValue). All (λ (cell : CellValue). All (λ line. measure line ≤ 65535) cell.text_lines) row.cells) (λ row own. own.short) (measured_rows table) rows;
         }
 
--- the lines of such a table are equally wide
+-- the lines of a table that is built in this way are equally wide
 pub built_is_equally_wide : (base : TableValue) (plain : base.custom_styling ≡ false) (unstyled : should_style base ≡ false) (P : RowValue → Type 0) (table : TableValue) → IsBuilt base P table
     → (lines : List Text) (drawing : IsTableDrawing table lines) → IsStraightTable table drawing.widths → AreEquallyWide lines
 built_is_equally_wide base plain unstyled P table known lines drawing is = (
@@ -103,7 +103,7 @@ built_is_equally_wide base plain unstyled P table known lines drawing is = (
   subst (All (λ line. measure line ≡ line_total table drawing.widths)) (sym (drawing.edges.unstyled_lines (ap should_style known.is ∙ unstyled) (ap (λ (t : TableValue). t.custom_styling) known.is ∙ plain))) (drawing.edges.straight is),
 )
 
--- a new table with a header and rows is built from an empty one
+-- a new table with a header and rows is built from an empty table
 built_new : (P : RowValue → Type 0) (style : TableStyle) (header : RowValue) (rows : List RowValue) → P header → All P rows → IsBuilt (new_table style) P (with_rows rows (with_header header (new_table style)))
 built_new P style header rows first each =
     built-rows (new_table style) P rows (with_header header (new_table style)) each

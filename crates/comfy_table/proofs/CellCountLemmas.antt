@@ -24,7 +24,7 @@ pub record IsCountedLine (w : ℕ) (line : Text) : Type 0 where
   pub fits : measure line ≤ w
   pub counted : HasCount (measure line) line
 
--- a printable line that fits is such a line
+-- a printable line that fits measures at most w, and has as many characters as it measures
 counted-printable : (w : ℕ) (line : Text) → IsPrintableLine w line → IsCountedLine w line
 counted-printable w line plain =
     record { fits = plain.fits; counted = HasCount-same (length line) (measure line) line (sym (measure-printable line plain.printable)) (HasCount-printable line plain.printable) }
@@ -75,7 +75,8 @@ row_cell_lines-counted table row info cell places utf8 plain even =
 
 -- ---- pieces
 
--- the piece of such a line has as many characters as its column is wide
+-- the piece of a line with as many characters as it measures has as many characters as its column
+-- is wide
 pub HasCount-unstyled_piece : (cell : CellValue) (info : ColumnInfo) (line : Text) → IsCountedLine info.content_width line → HasCount (info_width info) (unstyled_piece cell info line)
 HasCount-unstyled_piece cell info line counted =
     HasCount-same _ _ _ (whole_width (cell_alignment cell info) info.padding.0 (measure line) info.padding.1 info.content_width counted.fits)

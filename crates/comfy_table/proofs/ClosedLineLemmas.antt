@@ -5,7 +5,7 @@ use Rattle.std.specs.Prelude.{if◌then◌else◌, option_map}
 use Rattle.std.specs.Str.{IsUtf8}
 use Rattle.std.proofs.lemmas.Bool.Decides.{nat_tests}
 use Rattle.std.proofs.lemmas.List.Elements.{All-cons, All-from_recursion, All-map, All-nil, All-weaker}
-use Rattle.comfy_parts.proofs.CallerLemmas.{All-at, All-given, All-of_map, AllZip-map, At-or, OpensNone, StandsAlone, every-second, none-after, opens-alone, opens-append, opens-clear, opens-reset, opens-spaced, stands-append, stands-clear, stands-closed, stands-visible, stands-sequence}
+use Rattle.comfy_parts.proofs.CallerLemmas.{All-at, All-given, All-of_map, AllZip-map, At-or, OpensNone, IsScannedAlone, every-second, none-after, opens-alone, opens-append, opens-clear, opens-reset, opens-spaced, alone-append, alone-clear, alone-closed, alone-visible, alone-sequence}
 use Rattle.comfy_parts.specs.CellValue.{CellValue, ColumnInfo, ColumnValue, RowValue, info_width}
 use Rattle.comfy_parts.specs.Text.{HasNo, Text, measure, spaces}
 use Rattle.comfy_parts.specs.VisibleLines.{CellLine}
@@ -31,13 +31,13 @@ use Rattle.comfy_table.specs.TableValue.{TableValue, column_cells, header_and_ro
 -- ---- properties that drawing and joining texts keep
 
 -- a text stays one that no later text can continue
-stands_kept : KeptByDrawing HasNoEscape (λ shown text. StandsAlone text)
-stands_kept =
+alone_kept : KeptByDrawing HasNoEscape (λ shown text. IsScannedAlone text)
+alone_kept =
     record {
-      joins = record { kind = byte_kind 0x1B refl; of_kind = stands-clear; of_both = λ shown others xs ys. stands-append xs ys };
-      of_sequence = stands-sequence;
-      of_measured = stands-visible;
-      of_closed = stands-closed;
+      joins = record { kind = byte_kind 0x1B refl; of_kind = alone-clear; of_both = λ shown others xs ys. alone-append xs ys };
+      of_sequence = alone-sequence;
+      of_measured = alone-visible;
+      of_closed = alone-closed;
     }
 
 -- a joined text opens no sequence, if its parts open none
@@ -137,7 +137,7 @@ module _ (table : TableValue) (on : table.custom_styling ≡ true) (mark : HasNo
       by_case (inl some) = λ k default below. inl some
       by_case (inr clear) = λ k default below.
           inr (opens-alone (slice_index_or (row_cell_lines table row info cell) k default).written (none_is_open_at_the_end table row info cell on k default below)
-          (keeps_lines table row info cell HasNoEscape (λ shown text. StandsAlone text) stands_kept table.custom_styling mark own.whole clear k default below))
+          (keeps_lines table row info cell HasNoEscape (λ shown text. IsScannedAlone text) alone_kept table.custom_styling mark own.whole clear k default below))
 
   -- so its pieces open no sequence
   opens_pieces : (row : RowValue) (info : ColumnInfo) (cell : CellValue) → IsClosedCell table info cell → All OpensNone (cell_pieces table row info cell)

@@ -25,17 +25,17 @@ use Rattle.comfy_table.specs.Pieces.{shown_infos}
 pub record HasCount (n : ℕ) (text : Text) : Type 0 where
   pub counts : (rest : Text) → length (chars (text ++ rest)) ≡ n + length (chars rest)
 
--- so it has n characters
+-- so the text has n characters
 pub count-is : (n : ℕ) (text : Text) → HasCount n text → count text ≡ n
 count-is n text has = grind (arith, chars-nil, append-nil)
 
--- a number that equals n serves as n
+-- a number that equals n may take the place of n
 pub HasCount-same : (m n : ℕ) (text : Text) → m ≡ n → HasCount m text → HasCount n text
 HasCount-same m n text same has = subst (λ k. HasCount k text) same has
 
 -- ---- characters
 
--- the first byte of a character says how many bytes follow it
+-- the number of bytes that follow the first byte of a character depends on this byte alone
 led : (a n : ℕ) (bs : Text) → n ≡ continuation_len a → chars (a ∷ bs) ≡ chars_after n (lead_bits a) bs
 unfolding chars
 led a n bs says = ap (λ m. chars_after m (lead_bits a) bs) (sym says)

@@ -18,7 +18,7 @@ use Rattle.comfy_table.specs.TableValue.{TableValue}
 
 -- ---- lists whose last element may be cut
 
--- without a limit, the number of all lines serves as one
+-- without a limit, the number of all lines may be taken as the limit
 pub no_limit : {A : Type 0} (cut : A → A) (limit : Option ℕ) (lines : List A) → cut_to_limit cut limit lines ≡ cut_to_height cut (unwrap_or limit (length lines)) lines
 no_limit cut None lines = grind (arith, nat_tests)
 no_limit cut (Some h) lines = refl
@@ -62,7 +62,7 @@ abbrev pub measured_in_row : TableValue → RowValue → ColumnInfo → CellValu
 measured_in_row table row info cell =
     cut_to_limit (cut_text info.content_width table.indicator) row.max_height (cell_lines info.content_width (cell_delimiter table info.delimiter cell) cell)
 
--- they are the measured texts of its lines
+-- the measured lines of a cell in a row are the measured texts of its lines
 pub row-measured : (table : TableValue) (row : RowValue) (info : ColumnInfo) (cell : CellValue) → measured_of (row_cell_lines table row info cell) ≡ measured_in_row table row info (cell_measured table.custom_styling cell)
 row-measured table row info cell =
     map-cut (λ (line : CellLine). line.measured) (cut_line table.custom_styling info.content_width table.indicator) (cut_text info.content_width table.indicator) row.max_height _ (λ line. refl)
@@ -79,7 +79,7 @@ row-unstyled table row info cell =
 abbrev pub unstyled_piece : CellValue → ColumnInfo → Text → Text
 unstyled_piece cell info line = padded cell info (measure line) line
 
--- all pieces of an unstyled table are such pieces
+-- all pieces of an unstyled table are pieces without styling
 pub pieces-unstyled : (table : TableValue) (row : RowValue) (info : ColumnInfo) (cell : CellValue) → cell_pieces (unstyled table) row info cell ≡ map (unstyled_piece cell info) (measured_in_row table row info cell)
 pieces-unstyled table row info cell = grind (arith, row-unstyled, map-map)
 

@@ -8,13 +8,13 @@ use Rattle.comfy_parts.proofs.CallerLemmas.{join_by-map}
 use Rattle.comfy_table.specs.Frame.{character, draws_left_border, draws_right_border, draws_vertical_lines, between_borders}
 
 -- appending the left border, the pieces with junctions between them, and the right border to a text appends the line
-pub between_borders-behind : {X : Type 0} (style : TableStyle) (left junction right : Option ℕ) (f : X → Text) (xs : List X) (l v r : Bool) (start before inside whole : Text)
+pub between_borders-after : {X : Type 0} (style : TableStyle) (left junction right : Option ℕ) (f : X → Text) (xs : List X) (l v r : Bool) (start before inside whole : Text)
     → l ≡ draws_left_border style → v ≡ draws_vertical_lines style → r ≡ draws_right_border style
     → before ≡ start ++ (if l then character left else [])
     → inside ≡ before ++ join_by f (if v then character junction else []) xs
     → whole ≡ inside ++ (if r then character right else [])
     → whole ≡ start ++ between_borders style left junction right (map f xs)
-between_borders-behind {X} style left junction right f xs l v r start before inside whole el ev er first second third =
+between_borders-after {X} style left junction right f xs l v r start before inside whole el ev er first second third =
     third
     ∙ ap (λ (t : Text). t ++ (if r then character right else [])) second
     ∙ append_assoc before (join_by f (if v then character junction else []) xs) (if r then character right else [])

@@ -9,7 +9,7 @@ use Rattle.comfy_parts.proofs.CallerLemmas.{join_by-map}
 use Rattle.comfy_parts.specs.CellValue.{CellValue, ColumnInfo, ColumnValue, RowValue, info_of, info_width, is_hidden_column}
 use Rattle.comfy_parts.specs.Text.{Text}
 use Rattle.comfy_parts.specs.declared.style.table_style.ContentLineStyle.{ContentLineStyle}
-use Rattle.comfy_table.proofs.AllWidthsLemmas.{AreFrom, arranged_by_widths, behind_first, first_from, from_start}
+use Rattle.comfy_table.proofs.AllWidthsLemmas.{AreFrom, after_first, arranged_by_widths, first_from, from_start}
 use Rattle.comfy_table.proofs.BoundaryLemmas.{fixed_same, lower_same, upper_same}
 use Rattle.comfy_table.proofs.DisabledLemmas.{arranged_by_content}
 use Rattle.comfy_table.proofs.InfoLemmas.{columns_from, infos_from}
@@ -21,7 +21,7 @@ use Rattle.comfy_table.specs.DisabledWidths.{widths_by_content}
 use Rattle.comfy_table.specs.Drawing.{drawing, drawn_header, drawn_row, drawn_rows, infos_of, outer_widths}
 use Rattle.comfy_table.specs.Dynamic.{IsDynamicLayout}
 use Rattle.comfy_table.specs.Frame.{border_count}
-use Rattle.comfy_table.specs.HiddenColumns.{HiddenColumnsTellNothing, IsDrawnWithoutHidden, beside_shown, is_shown, shown_row, without_hidden}
+use Rattle.comfy_table.specs.HiddenColumns.{HiddenColumnsChangeNothing, IsDrawnWithoutHidden, beside_shown, is_shown, shown_row, without_hidden}
 use Rattle.comfy_table.specs.Pieces.{pieces_at, row_height, row_line, shown_infos}
 use Rattle.comfy_table.specs.TableValue.{TableValue, column_cells, column_content_width, header_and_rows, shown_columns, table_width}
 use Rattle.comfy_table.specs.Widths.{ColumnNeeds, capped_content, disabled_width, needs_of, shown_count, shown_needs}
@@ -186,7 +186,7 @@ infos-are : (all : List ℕ) (n : ℕ) (columns : List ColumnValue) (widths : Li
 infos-are all n [] widths each long = refl
 infos-are all n (column ∷ columns) [] each long = absurd (omega (arith, long))
 infos-are all n (column ∷ columns) (w ∷ widths) each long =
-    by_test (is_hidden_column column) (infos-are all (n + 1) columns widths (behind_first all n w widths each) (omega (arith, long)))
+    by_test (is_hidden_column column) (infos-are all (n + 1) columns widths (after_first all n w widths each) (omega (arith, long)))
   where
     by_test : (b : Bool) → infos_from (n + 1) columns widths ≡ map (drawn_with all) (columns_from (n + 1) columns)
         → cond (not b) ((n, info_of column w) ∷ infos_from (n + 1) columns widths) (infos_from (n + 1) columns widths)
@@ -265,6 +265,6 @@ is_drawn_without_hidden table lines = (without, with)
         let (all, whole) = has_widths table shown (width_kept table.arrangement (table_width table)) refl (subst (λ (T : Type 0). T) (sym (shown_widths_same table shown)) arranged.shown_widths) in
         (all, whole, is ∙ ap (drawing (without_hidden table)) (arranged_is_one (without_hidden table) widths (beside_shown table.columns all) arranged (arranged_without table all whole)) ∙ sym (drawing_same table all whole.one_for_each))
 
-pub hidden_columns_tell_nothing : (table other : TableValue) (lines others : List Text) → HiddenColumnsTellNothing table other lines others
-hidden_columns_tell_nothing table other lines others same first second =
+pub hidden_columns_change_nothing : (table other : TableValue) (lines others : List Text) → HiddenColumnsChangeNothing table other lines others
+hidden_columns_change_nothing table other lines others same first second =
     drawing_is_one (without_hidden other) lines others (subst (λ (t : TableValue). IsDrawingOf t lines) same ((is_drawn_without_hidden table lines).0 first)) ((is_drawn_without_hidden other others).0 second)

@@ -12,9 +12,9 @@ use Rattle.comfy_parts.specs.ItemsGiven.{vec_gives}
 
 module _ {S A : Type 0} (steps : S → Option A → S → Type 0) where
   -- if an item came, the items that were left before it aren't empty
-  beginning : (at behind : S) (items taken more : List A) (x : A) → items ≡ taken ++ more → AlwaysYields steps (λ y. y) at more → steps at (Some x) behind → (n : ℕ) × (n < length items) × (taken ≡ take n items)
-  beginning at behind items taken [] x e always step = absurd (always x behind step)
-  beginning at behind items taken (y ∷ more) x e always step =
+  beginning : (at after : S) (items taken more : List A) (x : A) → items ≡ taken ++ more → AlwaysYields steps (λ y. y) at more → steps at (Some x) after → (n : ℕ) × (n < length items) × (taken ≡ take n items)
+  beginning at after items taken [] x e always step = absurd (always x after step)
+  beginning at after items taken (y ∷ more) x e always step =
       let counted = ap length e ∙ length-append taken (y ∷ more) in
       (length taken, omega (arith, counted), sym (ap (take (length taken)) e ∙ take-append_seam taken (y ∷ more)))
 
@@ -24,10 +24,10 @@ module _ {S A : Type 0} {can_next : S → Type 0} {steps : S → Option A → S 
   all_given from items taken gives drains = sym (map-id taken) ∙ gives_Drains steps (λ x. x) taken items from gives.in_order drains
 
   -- if one more item came, not all items were taken
-  pub not_all_given : (from at behind : S) (items taken : List A) (x : A) → GivesAll can_next steps remaining from items → Yields steps from taken at → steps at (Some x) behind → (n : ℕ) × (n < length items) × (taken ≡ take n items)
-  not_all_given from at behind items taken x gives yields step =
+  pub not_all_given : (from at after : S) (items taken : List A) (x : A) → GivesAll can_next steps remaining from items → Yields steps from taken at → steps at (Some x) after → (n : ℕ) × (n < length items) × (taken ≡ take n items)
+  not_all_given from at after items taken x gives yields step =
       let left = gives_left steps (λ y. y) taken items from at gives.in_order yields in
-      beginning steps at behind items taken left.0 x (left.1 ∙ ap (λ xs. xs ++ left.0) (map-id taken)) left.2 step
+      beginning steps at after items taken left.0 x (left.1 ∙ ap (λ xs. xs ++ left.0) (map-id taken)) left.2 step
 
 -- the items taken from the iterator of a `Vec` come before the items that are left
 pub taken_from_vec : {A Z : Type 0} (xs : List A) (s t : IntoIter A Z) → Yields into_iter_steps s xs t → into_iter_items s ≡ xs ++ into_iter_items t

@@ -42,7 +42,7 @@ Fronts Follows text = (rest : Text) → Follows rest → Follows (text ++ rest)
 pub measure-is : (Follows : Text → Type 0) (n : ℕ) (text : Text) → IsFollowing Follows → HasMeasure Follows n text → measure text ≡ n
 measure-is Follows n text follows has = grind (arith, measure-nil, append-nil)
 
--- a number that equals n serves as n
+-- a number that equals n may take the place of n
 pub HasMeasure-same : (Follows : Text → Type 0) (m n : ℕ) (text : Text) → m ≡ n → HasMeasure Follows m text → HasMeasure Follows n text
 HasMeasure-same Follows m n text same has = subst (λ k. HasMeasure Follows k text) same has
 
@@ -74,14 +74,14 @@ pub HasMeasure-append : (Follows : Text → Type 0) (m n : ℕ) (xs ys : Text) �
 HasMeasure-append Follows m n xs ys front fronts back = grind (arith, append_assoc)
 
 -- two texts add the sum, if the first adds its terminal columns before every text
-pub HasMeasure-behind : (Follows : Text → Type 0) (m n : ℕ) (xs ys : Text) → HasMeasure IsAny m xs → HasMeasure Follows n ys → HasMeasure Follows (m + n) (xs ++ ys)
-HasMeasure-behind Follows m n xs ys front back = grind (arith, append_assoc)
+pub HasMeasure-after : (Follows : Text → Type 0) (m n : ℕ) (xs ys : Text) → HasMeasure IsAny m xs → HasMeasure Follows n ys → HasMeasure Follows (m + n) (xs ++ ys)
+HasMeasure-after Follows m n xs ys front back = grind (arith, append_assoc)
 
 -- a text of one terminal column, repeated n times, adds n
 pub HasMeasure-repeat : (n : ℕ) (text : Text) → HasMeasure IsAny 1 text → HasMeasure IsAny n (repeat n text)
 HasMeasure-repeat zero text one = HasMeasure-nil
 HasMeasure-repeat (suc n) text one =
-    HasMeasure-same IsAny (1 + n) (suc n) (repeat (suc n) text) (omega arith) (HasMeasure-behind IsAny 1 n text (repeat n text) one (HasMeasure-repeat n text one))
+    HasMeasure-same IsAny (1 + n) (suc n) (repeat (suc n) text) (omega arith) (HasMeasure-after IsAny 1 n text (repeat n text) one (HasMeasure-repeat n text one))
 
 -- ---- framed lines
 
@@ -124,7 +124,7 @@ module _ (Follows : Text → Type 0) (b : Bool) (separator : Text) (one : HasMea
   HasMeasure-separated (w ∷ widths) (piece ∷ pieces) (first, more) =
       HasMeasure-same Follows (((if b then 1 else 0) + w) + ((if b then length widths else 0) + sum widths)) ((if b then suc (length widths) else 0) + sum (w ∷ widths)) _ (sum-separated w widths b)
       (HasMeasure-append Follows _ _ (between ++ piece) (flat_map (λ (piece : Text). between ++ piece) pieces)
-      (HasMeasure-behind Follows _ w between piece (HasMeasure-when b separator one) first.has) (Fronts-separated widths pieces more) (HasMeasure-separated widths pieces more))
+      (HasMeasure-after Follows _ w between piece (HasMeasure-when b separator one) first.has) (Fronts-separated widths pieces more) (HasMeasure-separated widths pieces more))
 
   -- pieces with a separator between each two
   pub HasMeasure-between : (widths : List ℕ) (pieces : List Text) → AllZip (IsPiece Follows between) widths pieces

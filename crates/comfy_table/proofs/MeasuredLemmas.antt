@@ -67,7 +67,7 @@ visible_text_lines texts own =
 abbrev pub HasCells : RowValue → Type 0
 HasCells row = All IsCell row.cells
 
--- they still have it as they are measured
+-- the cells of the rows still have the invariant as they are measured
 pub measured_kept : (table : TableValue) → All HasCells (header_and_rows table) → All HasCells (measured_rows table)
 measured_kept table each =
     All-measured table HasCells

@@ -10,7 +10,7 @@ use Rattle.comfy_table.specs.Frame.{border_count, character, between_borders, fr
 use Rattle.comfy_table.specs.Pieces.{cell_alignment, free_before, free_places, spaces_after}
 use Rattle.comfy_table.proofs.CutLemmas.{unstyled_piece}
 use Rattle.comfy_table.proofs.SpaceLemmas.{whole_width}
-use Rattle.comfy_table.proofs.MeasureLemmas.{IsAny, IsFollowing, apart_follows, HasMeasure, Fronts, HasMeasure-same, HasMeasure-any, HasMeasure-append, HasMeasure-behind, HasMeasure-spaces, HasMeasure-text, HasMeasure-repeat, HasMeasure-character, HasMeasure-when, HasMeasure-between, Fronts-when, IsPiece, any_follows}
+use Rattle.comfy_table.proofs.MeasureLemmas.{IsAny, IsFollowing, apart_follows, HasMeasure, Fronts, HasMeasure-same, HasMeasure-any, HasMeasure-append, HasMeasure-after, HasMeasure-spaces, HasMeasure-text, HasMeasure-repeat, HasMeasure-character, HasMeasure-when, HasMeasure-between, Fronts-when, IsPiece, any_follows}
 use Rattle.comfy_parts.proofs.CallerLemmas.{IsFittingLine}
 use Rattle.comfy_parts.specs.Columns.{AddsOneColumn, IsApart, IsOneColumn}
 
@@ -23,7 +23,7 @@ pub HasMeasure-joined : (Follows : Text → Type 0) (style : TableStyle) (left j
 HasMeasure-joined Follows style left junction right widths pieces follows first middle last each =
     let order : (l r j s : ℕ) → l + ((j + s) + r) ≡ ((l + r) + j) + s = λ l r j s. omega arith in
     HasMeasure-same Follows _ _ _ (order (if draws_left_border style then 1 else 0) (if draws_right_border style then 1 else 0) (if draws_vertical_lines style then length widths - 1 else 0) (sum widths))
-    (HasMeasure-behind Follows _ _ _ _ (HasMeasure-when (draws_left_border style) (character left) (HasMeasure-character _ first))
+    (HasMeasure-after Follows _ _ _ _ (HasMeasure-when (draws_left_border style) (character left) (HasMeasure-character _ first))
     (HasMeasure-append Follows _ _ _ _ (HasMeasure-between Follows (draws_vertical_lines style) (character junction) (HasMeasure-character _ middle) widths pieces each)
     (Fronts-when Follows (draws_right_border style) (unwrap_or right 0x20) follows last)
     (HasMeasure-any Follows _ _ (HasMeasure-when (draws_right_border style) (character right) (HasMeasure-character _ last)))))
@@ -64,37 +64,37 @@ spaced-end zero (suc n) rest some = apart_follows.spaced (spaces n ++ rest)
 spaced-end (suc a) n rest some = apart_follows.spaced ((spaces a ++ spaces n) ++ rest)
 
 -- the text after a line in its column: spaces and the right padding
-abbrev behind : CellValue → ColumnInfo → Text → Text
-behind cell info line = spaces_after cell info (measure line) ++ spaces info.padding.1
+abbrev after : CellValue → ColumnInfo → Text → Text
+after cell info line = spaces_after cell info (measure line) ++ spaces info.padding.1
 
-HasMeasure-behind_line : (cell : CellValue) (info : ColumnInfo) (line : Text) → HasMeasure IsAny ((free_places info (measure line) - free_before (cell_alignment cell info) (free_places info (measure line))) + info.padding.1) (behind cell info line)
-HasMeasure-behind_line cell info line = HasMeasure-behind IsAny _ _ _ _ (HasMeasure-spaces _) (HasMeasure-spaces info.padding.1)
+HasMeasure-after_line : (cell : CellValue) (info : ColumnInfo) (line : Text) → HasMeasure IsAny ((free_places info (measure line) - free_before (cell_alignment cell info) (free_places info (measure line))) + info.padding.1) (after cell info line)
+HasMeasure-after_line cell info line = HasMeasure-after IsAny _ _ _ _ (HasMeasure-spaces _) (HasMeasure-spaces info.padding.1)
 
 -- a piece is as wide as its column, if its line and the text after it are as wide as they should be together
 HasMeasure-padded : (Follows : Text → Type 0) (cell : CellValue) (info : ColumnInfo) (line : Text) → IsFittingLine info.content_width line
-    → HasMeasure Follows (measure line + ((free_places info (measure line) - free_before (cell_alignment cell info) (free_places info (measure line))) + info.padding.1)) (line ++ behind cell info line)
+    → HasMeasure Follows (measure line + ((free_places info (measure line) - free_before (cell_alignment cell info) (free_places info (measure line))) + info.padding.1)) (line ++ after cell info line)
     → HasMeasure Follows (info_width info) (unstyled_piece cell info line)
 HasMeasure-padded Follows cell info line fitting last =
     HasMeasure-same Follows _ _ _ (whole_width (cell_alignment cell info) info.padding.0 (measure line) info.padding.1 info.content_width fitting.fits)
-    (HasMeasure-behind Follows info.padding.0 _ _ _ (HasMeasure-spaces info.padding.0) (HasMeasure-behind Follows _ _ _ _ (HasMeasure-spaces _) last))
+    (HasMeasure-after Follows info.padding.0 _ _ _ (HasMeasure-spaces info.padding.0) (HasMeasure-after Follows _ _ _ _ (HasMeasure-spaces _) last))
 
 -- before a text that can't join it, the piece of a line that fits is as wide as its column
 pub piece-apart : (cell : CellValue) (info : ColumnInfo) (line : Text) → IsFittingLine info.content_width line → HasMeasure IsApart (info_width info) (unstyled_piece cell info line)
 piece-apart cell info line fitting =
     HasMeasure-padded IsApart cell info line fitting
-    (HasMeasure-append IsApart (measure line) _ line (behind cell info line) (HasMeasure-text line fitting.whole)
+    (HasMeasure-append IsApart (measure line) _ line (after cell info line) (HasMeasure-text line fitting.whole)
     (λ rest may. subst IsApart (sym (append_assoc (spaces_after cell info (measure line)) (spaces info.padding.1) rest)) (Fronts-spaces IsApart _ apart_follows (spaces info.padding.1 ++ rest) (Fronts-spaces IsApart info.padding.1 apart_follows rest may)))
-    (HasMeasure-any IsApart _ _ (HasMeasure-behind_line cell info line)))
+    (HasMeasure-any IsApart _ _ (HasMeasure-after_line cell info line)))
 
 -- with a padding at its right, the piece is as wide before every text
 pub piece-any : (cell : CellValue) (info : ColumnInfo) (line : Text) → 1 ≤ info.padding.1 → IsFittingLine info.content_width line → HasMeasure IsAny (info_width info) (unstyled_piece cell info line)
 piece-any cell info line some fitting = HasMeasure-padded IsAny cell info line fitting (record { measures = λ rest _. all rest })
   where
-    all : (rest : Text) → measure ((line ++ behind cell info line) ++ rest) ≡ (measure line + ((free_places info (measure line) - free_before (cell_alignment cell info) (free_places info (measure line))) + info.padding.1)) + measure rest
+    all : (rest : Text) → measure ((line ++ after cell info line) ++ rest) ≡ (measure line + ((free_places info (measure line) - free_before (cell_alignment cell info) (free_places info (measure line))) + info.padding.1)) + measure rest
     all rest =
         let first = spaced-end (free_places info (measure line) - free_before (cell_alignment cell info) (free_places info (measure line))) info.padding.1 rest some line fitting.whole in
-        let second = (HasMeasure-behind_line cell info line).measures rest tt in
-        ap measure (append_assoc line (behind cell info line) rest) ∙ first ∙ omega (arith, second)
+        let second = (HasMeasure-after_line cell info line).measures rest tt in
+        ap measure (append_assoc line (after cell info line) rest) ∙ first ∙ omega (arith, second)
 
 -- ---- pieces side by side
 
@@ -103,17 +103,17 @@ pub record IsGoodPiece (Follows : Text → Type 0) (v : Bool) (width : ℕ) (pie
   pub has : HasMeasure Follows width piece
   pub fronts : (c : ℕ) → AddsOneColumn c → Fronts Follows ((if v then encode_utf8 c else []) ++ piece)
 
--- such a piece after a junction
+-- a piece of this kind after a junction
 pub good-junction : (v : Bool) (width : ℕ) (piece : Text) → v ≡ true → HasMeasure IsApart width piece → IsGoodPiece IsApart v width piece
 good-junction true width piece drawn has =
     record { has = has; fronts = λ c adds rest may. subst IsApart (sym (append_assoc (encode_utf8 c) piece rest)) (apart_follows.seals c adds (piece ++ rest)) }
 good-junction false width piece drawn has = absurd (cc drawn)
 
--- such a piece with a space at its front
+-- a piece of this kind with a space at its beginning
 pub good-front : (v : Bool) (width : ℕ) (piece : Text) → ((rest : Text) → IsApart (piece ++ rest)) → HasMeasure IsApart width piece → IsGoodPiece IsApart v width piece
 good-front true width piece front has = good-junction true width piece refl has
 good-front false width piece front has = record { has = has; fronts = λ c adds rest may. front rest }
 
--- such a piece that measures its width before every text
+-- a piece of this kind that measures its width before every text
 pub good-any : (v : Bool) (width : ℕ) (piece : Text) → HasMeasure IsAny width piece → IsGoodPiece IsAny v width piece
 good-any v width piece has = record { has = has; fronts = λ c adds rest may. tt }

@@ -15,28 +15,28 @@ use Rattle.comfy_table.proofs.TurnLemmas.{IsBetween, none_next, some_next}
 use Rattle.comfy_table.proofs.UndecidedLemmas.{is_undecided-set, length-undecided_among, length-with_claims, undecided_among-with_claims}
 
 -- position i is one of the last `passed` positions before `place`, going round n positions
-abbrev pub IsBehind : ℕ → ℕ → ℕ → ℕ → Type 0
-IsBehind n place passed i = (i < n) × (((i < place) × (place ≤ i + passed)) ⊎ ((place ≤ i) × (n + place ≤ i + passed)))
+abbrev pub IsBeyond : ℕ → ℕ → ℕ → ℕ → Type 0
+IsBeyond n place passed i = (i < n) × (((i < place) × (place ≤ i + passed)) ⊎ ((place ≤ i) × (n + place ≤ i + passed)))
 
 -- after one step, a passed position is the one of this step, or was passed before
-behind_one_more : (n place passed i : ℕ) → place < n → IsBehind n (position_after n place) (passed + 1) i → (place ≡ i) ⊎ IsBehind n place passed i
-behind_one_more n place passed i within = grind arith
+after_one_more : (n place passed i : ℕ) → place < n → IsBeyond n (position_after n place) (passed + 1) i → (place ≡ i) ⊎ IsBeyond n place passed i
+after_one_more n place passed i within = grind arith
 
 -- at first no position is passed
-none_behind : (n i : ℕ) → IsBehind n 0 0 i → ⊥
-none_behind n i behind = grind arith
+none_after : (n i : ℕ) → IsBeyond n 0 0 i → ⊥
+none_after n i after = grind arith
 
 -- the passed positions and the current one are passed at the next position
-behind_next : (n place passed i : ℕ) → place < n → passed < n → IsBehind n place passed i ⊎ (place ≡ i) → IsBehind n (position_after n place) (passed + 1) i
-behind_next n place passed i within fewer behind = grind arith
+after_next : (n place passed i : ℕ) → place < n → passed < n → IsBeyond n place passed i ⊎ (place ≡ i) → IsBeyond n (position_after n place) (passed + 1) i
+after_next n place passed i within fewer after = grind arith
 
 -- after n steps without a claim, all positions are passed
-all_behind : (n place passed i : ℕ) → place < n → n ≤ passed → i < n → IsBehind n place passed i
-all_behind n place passed i within all below = grind (arith, cases_lt)
+all_after : (n place passed i : ℕ) → place < n → n ≤ passed → i < n → IsBeyond n place passed i
+all_after n place passed i within all below = grind (arith, cases_lt)
 
 -- the positions between a passed position and the current one are passed
-between_behind : (n place passed from i : ℕ) → place < n → i < n → IsBehind n place passed from ⊎ (place ≡ from) → IsBetween from place i → IsBehind n place passed i
-between_behind n place passed from i within below since between = grind arith
+between_after : (n place passed from i : ℕ) → place < n → i < n → IsBeyond n place passed from ⊎ (place ≡ from) → IsBetween from place i → IsBeyond n place passed i
+between_after n place passed from i within below since between = grind arith
 
 -- the position of the last claim is the one from which the next claim is looked for
 place_after-push : (candidates : List Positioned) (offer : List Claim → Positioned → Option ℕ) (from : ℕ) (order : List Claim) (t : Claim) → place_after candidates offer from (order ++ t ∷ []) ≡ t.0
@@ -96,8 +96,8 @@ module _ (rule : Rule) (needs : List ColumnNeeds) (old : Budget) where
     pub taken : HasTaken order old now
     pub within : 0 < length needs → place < length needs
     pub average_is : average ≡ average_room now
-    pub nothing : (i : ℕ) (d : ColumnNeeds) → slice_get needs i ≡ Some d → IsBehind (length needs) place passed i → is_undecided now.widths.items i ≡ true → width_by_rule rule average d ≡ None
-    pub since : IsBehind (length needs) place passed (place_after candidates offer 0 order) ⊎ (place ≡ place_after candidates offer 0 order)
+    pub nothing : (i : ℕ) (d : ColumnNeeds) → slice_get needs i ≡ Some d → IsBeyond (length needs) place passed i → is_undecided now.widths.items i ≡ true → width_by_rule rule average d ≡ None
+    pub since : IsBeyond (length needs) place passed (place_after candidates offer 0 order) ⊎ (place ≡ place_after candidates offer 0 order)
 
   -- at first no claim is taken, and no position is passed
   pub turn_begins : (average : ℕ) → average ≡ average_room old → IsTurn old 0 0 average
@@ -107,7 +107,7 @@ module _ (rule : Rule) (needs : List ColumnNeeds) (old : Budget) where
     taken = record { widths = refl; room = omega arith };
     within = λ some. some;
     average_is = is;
-    nothing = λ i d found behind left. absurd (none_behind (length needs) i behind);
+    nothing = λ i d found after left. absurd (none_after (length needs) i after);
     since = inr refl;
   }
 
@@ -141,10 +141,10 @@ module _ (rule : Rule) (needs : List ColumnNeeds) (old : Budget) where
           taken = turn.taken;
           within = λ some. place_within within;
           average_is = turn.average_is;
-          nothing = λ i d found behind left.
+          nothing = λ i d found after left.
               ⊎_elim (λ here. width_at-none rule average needs now.widths.items place none d (ap (slice_get needs) here ∙ found) (ap (is_undecided now.widths.items) here ∙ left))
-              (λ before. turn.nothing i d found before left) (behind_one_more (length needs) place passed i within behind);
-          since = inl (behind_next (length needs) place passed (place_after candidates offer 0 turn.order) within fewer turn.since);
+              (λ before. turn.nothing i d found before left) (after_one_more (length needs) place passed i within after);
+          since = inl (after_next (length needs) place passed (place_after candidates offer 0 turn.order) within fewer turn.since);
         }
 
     -- after as many steps without a claim as there are columns, no column takes a width any more
@@ -155,7 +155,7 @@ module _ (rule : Rule) (needs : List ColumnNeeds) (old : Budget) where
           (next_is (place_after candidates offer 0 turn.order)
           ∙ none_next needs now.widths.items (λ (p : Positioned). width_by_rule rule average p.1) (place_after candidates offer 0 turn.order)
           (λ i d found left. let below : i < length needs = slice_get_within needs i d found in
-          turn.nothing i d found (all_behind (length needs) place passed i (turn.within (omega (arith, below))) all below) left)),
+          turn.nothing i d found (all_after (length needs) place passed i (turn.within (omega (arith, below))) all below) left)),
       turn.taken,
     )
 
@@ -172,7 +172,7 @@ module _ (rule : Rule) (needs : List ColumnNeeds) (old : Budget) where
         let next : next_taken candidates offer from ([] ++ turn.order) ≡ Some t =
         next_is from
         ∙ some_next needs now.widths.items (λ (p : Positioned). width_by_rule rule average p.1) from place takes.column width takes.found takes.left takes.takes
-        (λ i d found between left. turn.nothing i d found (between_behind (length needs) place passed from i below (slice_get_within needs i d found) turn.since between) left) in
+        (λ i d found between left. turn.nothing i d found (between_after (length needs) place passed from i below (slice_get_within needs i d found) turn.since between) left) in
         let last : place_after candidates offer 0 (turn.order ++ t ∷ []) ≡ place = place_after-push candidates offer 0 turn.order t in
         record {
           order = turn.order ++ t ∷ [];
@@ -184,18 +184,18 @@ module _ (rule : Rule) (needs : List ColumnNeeds) (old : Budget) where
           within = λ _. place_within below;
           average_is = average_is;
           nothing = nothing_new (is_undecided-set now.widths.items place);
-          since = inl (subst (IsBehind (length needs) (position_after (length needs) place) passed') (sym last) (here_behind below));
+          since = inl (subst (IsBeyond (length needs) (position_after (length needs) place) passed') (sym last) (here_after below));
         }
       where
-        here_behind : place < length needs → IsBehind (length needs) (position_after (length needs) place) passed' place
-        here_behind below =
-            ⊎_elim (λ one. subst (λ (n : ℕ). IsBehind (length needs) (position_after (length needs) place) n place) (sym one) (behind_next (length needs) place 0 place below (omega (arith, below)) (inr refl)))
-            (λ more. subst (λ (n : ℕ). IsBehind (length needs) (position_after (length needs) place) n place) (sym more.1) (behind_next (length needs) place passed place below fewer (inr refl))) by
+        here_after : place < length needs → IsBeyond (length needs) (position_after (length needs) place) passed' place
+        here_after below =
+            ⊎_elim (λ one. subst (λ (n : ℕ). IsBeyond (length needs) (position_after (length needs) place) n place) (sym one) (after_next (length needs) place 0 place below (omega (arith, below)) (inr refl)))
+            (λ more. subst (λ (n : ℕ). IsBeyond (length needs) (position_after (length needs) place) n place) (sym more.1) (after_next (length needs) place passed place below fewer (inr refl))) by
 
         -- the columns that are left after the next position were left before it
         nothing_new : ((j w : ℕ) → is_undecided (slice_set now.widths.items place (Some w)) j ≡ (is_undecided now.widths.items j && not (place == j)))
-            → (i : ℕ) (d : ColumnNeeds) → slice_get needs i ≡ Some d → IsBehind (length needs) (position_after (length needs) place) passed' i → is_undecided new.widths.items i ≡ true → width_by_rule rule average' d ≡ None
-        nothing_new set i d found behind left =
+            → (i : ℕ) (d : ColumnNeeds) → slice_get needs i ≡ Some d → IsBeyond (length needs) (position_after (length needs) place) passed' i → is_undecided new.widths.items i ≡ true → width_by_rule rule average' d ≡ None
+        nothing_new set i d found after left =
             let place_now : slice_get needs i ≡ Some d → place < length needs = λ found. turn.within (omega (arith, slice_get_within needs i d found)) in
             let both : (is_undecided now.widths.items i && not (place == i)) ≡ true = sym (set i width) ∙ ap (λ (ws : List (Option ℕ)). is_undecided ws i) (sym widths_are) ∙ left in
             let parts = and_parts (is_undecided now.widths.items i) (not (place == i)) both in
@@ -203,8 +203,8 @@ module _ (rule : Rule) (needs : List ColumnNeeds) (old : Budget) where
             ⊎_elim
             (λ one.
             ⊎_elim other (λ before. absurd (⊎_elim (λ near. omega (arith, near.0, near.1)) (λ far. omega (arith, far.1, before.0)) before.1))
-            (behind_one_more (length needs) place 0 i (place_now found) (subst (λ (n : ℕ). IsBehind (length needs) (position_after (length needs) place) n i) one behind)))
+            (after_one_more (length needs) place 0 i (place_now found) (subst (λ (n : ℕ). IsBeyond (length needs) (position_after (length needs) place) n i) one after)))
             (λ more.
             ⊎_elim other (λ before. ap (λ (a : ℕ). width_by_rule rule a d) more.0 ∙ turn.nothing i d found before parts.0)
-            (behind_one_more (length needs) place passed i (place_now found) (subst (λ (n : ℕ). IsBehind (length needs) (position_after (length needs) place) n i) more.1 behind)))
+            (after_one_more (length needs) place passed i (place_now found) (subst (λ (n : ℕ). IsBeyond (length needs) (position_after (length needs) place) n i) more.1 after)))
             by

@@ -62,7 +62,7 @@ onto_first-clear : (b : ℕ) (lines : List Text) → (b == 0x1B) ≡ false → l
 onto_first-clear b [] own clear = rw own refl
 onto_first-clear b (line ∷ lines) own clear = rw own clear
 
--- no line of such a text has an escape sequence
+-- no text line of a text without ESC has ESC
 pub lines_clear : (text : Text) → has_escape text ≡ false → list_any has_escape (plain_cell text).text_lines ≡ false
 lines_clear [] clear = refl
 lines_clear (b ∷ bs) clear =
@@ -72,7 +72,7 @@ lines_clear (b ∷ bs) clear =
 
 -- ---- cells without escape sequences
 
--- such a cell is measured as it is
+-- a cell without ESC is measured as it is
 pub clear_measured : (table : TableValue) (cell : CellValue) → list_any has_escape cell.text_lines ≡ false → measured_cell table cell ≡ cell
 clear_measured table cell none = ap (λ (lines : List Text). record cell { text_lines = lines }) (by_styling table.custom_styling)
   where
@@ -84,7 +84,7 @@ clear_measured table cell none = ap (λ (lines : List Text). record cell { text_
 pub lines_of_one : (w d : ℕ) (cell : CellValue) (text : Text) → cell.text_lines ≡ text ∷ [] → cell_lines w d cell ≡ lines_of_text w d text
 lines_of_one w d cell text single = ap (flat_map (lines_of_text w d)) single ∙ append-nil (lines_of_text w d text)
 
--- no line of such a cell needs custom styling
+-- no line of a cell without ESC needs custom styling
 pub unescaped : (custom : Bool) (cell : CellValue) → list_any has_escape cell.text_lines ≡ false → (custom && list_any has_escape cell.text_lines) ≡ false
 unescaped true cell none = none
 unescaped false cell none = refl

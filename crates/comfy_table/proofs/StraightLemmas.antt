@@ -17,7 +17,7 @@ use Rattle.comfy_table.specs.Pieces.{blank_piece, pieces_at, row_line, shown_inf
 use Rattle.comfy_table.specs.TableValue.{TableValue, measured_rows}
 use Rattle.comfy_table.specs.Widths.{shown_count}
 use Rattle.comfy_table.specs.Arrangement.{IsArranged}
-use Rattle.comfy_table.specs.Straight.{EachCell, IsShownWhole, IsStraightTable, CellLinesFit, TextsFit, TextsStandApart}
+use Rattle.comfy_table.specs.Straight.{EachCell, IsShownWhole, IsStraightTable, CellLinesFit, TextsFit, TextsAreApart}
 use Rattle.comfy_table.proofs.CutLemmas.{All-pieces, unstyled_piece, measured_in_row}
 use Rattle.comfy_table.proofs.CellFitLemmas.{HasFittingLines, IsWholeCell, lines-fit, texts-fit}
 use Rattle.comfy_table.proofs.WholeTableLemmas.{whole_table_fits}
@@ -96,7 +96,7 @@ module _ (table : TableValue) (infos : List ColumnInfo) (Follows : Text → Type
 -- ---- all tables
 
 -- if all lines of cells fit, all lines, also frame lines, are equally wide
-straight_lines : (table : TableValue) (widths : List ℕ) → All IsOneColumn (style_characters table.style) → TextsStandApart table → EachCell (HasFittingLines table) table widths → IsArranged table widths
+straight_lines : (table : TableValue) (widths : List ℕ) → All IsOneColumn (style_characters table.style) → TextsAreApart table → EachCell (HasFittingLines table) table widths → IsArranged table widths
     → All (λ line. measure line ≡ line_total table widths) (drawing (unstyled table) widths)
 straight_lines table widths characters apart lines_fit arranged =
     subst (λ n. All (λ line. measure line ≡ border_count table.style n + sum (outer_widths infos)) (drawing (unstyled table) widths)) columns (by_case apart)
@@ -110,7 +110,7 @@ straight_lines table widths characters apart lines_fit arranged =
     columns : length (outer_widths infos) ≡ shown_count table
     columns = length-map (shown_infos infos) _ ∙ length-infos_from 0 table.columns widths arranged.one_for_each
 
-    by_case : TextsStandApart table → All (λ line. measure line ≡ border_count table.style (length (outer_widths infos)) + sum (outer_widths infos)) (drawing (unstyled table) widths)
+    by_case : TextsAreApart table → All (λ line. measure line ≡ border_count table.style (length (outer_widths infos)) + sum (outer_widths infos)) (drawing (unstyled table) widths)
     by_case (inl drawn) =
         drawing_straight table infos IsApart apart_follows characters (λ j other below. good-junction v _ _ drawn (HasMeasure-any IsApart _ _ (HasMeasure-spaces _)))
         (λ k default under j other below.

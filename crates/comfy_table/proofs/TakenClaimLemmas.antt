@@ -12,9 +12,9 @@ use Rattle.comfy_table.proofs.TakingLemmas.{next_taken-where, next_taken-none}
 use Rattle.comfy_parts.proofs.CallerLemmas.{every-always, every-both, every-filter, every-weaker}
 
 -- every column is at its position
-pub every_stands : (columns : List Positioned) → AllByRecursion (λ (p : Positioned). 0 < count_at p.0 columns) columns
-every_stands [] = tt
-every_stands (p ∷ more) = grind (arith, every-weaker, every_stands more)
+pub each_is_counted : (columns : List Positioned) → AllByRecursion (λ (p : Positioned). 0 < count_at p.0 columns) columns
+each_is_counted [] = tt
+each_is_counted (p ∷ more) = grind (arith, every-weaker, each_is_counted more)
 
 -- the columns that are left have at most one for each position, if all columns do
 pub one_each-without : (taken : List Claim) (columns : List Positioned) → IsOneEach columns → IsOneEach (without_claims taken columns)
@@ -38,7 +38,7 @@ module _ (candidates : List Positioned) (one : IsOneEach candidates) where
   pub taken_among : (offer : List Claim → Positioned → Option ℕ) (from : ℕ) (taken order : List Claim) → IsAmong taken candidates → IsTakenAfter candidates offer from taken order → IsAmong (taken ++ order) candidates
   taken_among offer from taken [] among ends = subst (λ (ts : List Claim). IsAmong ts candidates) (sym (append-nil taken)) among
   taken_among offer from taken (t ∷ more) among goes =
-      let next = next_taken-where candidates offer (λ (p : Positioned). 0 < count_at p.0 (without_claims taken candidates)) from taken t (every_stands (without_claims taken candidates)) goes.0 in
+      let next = next_taken-where candidates offer (λ (p : Positioned). 0 < count_at p.0 (without_claims taken candidates)) from taken t (each_is_counted (without_claims taken candidates)) goes.0 in
       subst (λ (ts : List Claim). IsAmong ts candidates) (append_assoc taken (t ∷ []) more)
       (taken_among offer t.0 (taken ++ t ∷ []) more (among-push taken t among next.left) goes.1)
 
@@ -87,7 +87,7 @@ module _ (room : ℕ) (candidates : List Positioned) (one : IsOneEach candidates
   shrunk_where from taken (t ∷ more) among enough goes =
       let Q : Positioned → Type 0 = λ (p : Positioned). P p × (0 < count_at p.0 (without_claims taken candidates)) in
       let left = without_claims taken candidates in
-      let next = next_taken-where candidates (shrunk_offer room candidates) Q from taken t (every-both P (λ (p : Positioned). 0 < count_at p.0 left) left (every-filter P (λ (p : Positioned). not (has_claim taken p.0)) candidates each) (every_stands left)) goes.0 in
+      let next = next_taken-where candidates (shrunk_offer room candidates) Q from taken t (every-both P (λ (p : Positioned). 0 < count_at p.0 left) left (every-filter P (λ (p : Positioned). not (has_claim taken p.0)) candidates each) (each_is_counted left)) goes.0 in
       let among' = among-push candidates one taken t among next.left.1 in
       let fewer = length-push candidates one taken t among among' in
       let b = average room candidates taken in

@@ -14,7 +14,7 @@ use Rattle.comfy_table.specs.Frame.{character}
 use Rattle.comfy_table.specs.Laws.{IsStyleWithout}
 use Rattle.comfy_table.specs.Lines.{fitting_indicator, cut_text}
 
--- such a kind, which includes spaces
+-- a kind that joining and splitting keep, and that includes spaces
 pub record IsKind (C : Text → Type 0) : Type 0 where
   pub nothing : C []
   pub space : C (0x20 ∷ [])

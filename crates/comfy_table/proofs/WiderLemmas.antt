@@ -13,7 +13,7 @@ use Rattle.comfy_parts.proofs.CallerLemmas.{every-always, every-append, every-ma
 use Rattle.comfy_table.proofs.ClaimLemmas.{count_at, claim_at-where}
 use Rattle.comfy_table.proofs.SpreadLemmas.{IsPartOf, every-even_spread, claims_beside, every-claims_beside}
 use Rattle.comfy_table.proofs.StepLemmas.{count_at-all_claims}
-use Rattle.comfy_table.proofs.TakenClaimLemmas.{every_stands}
+use Rattle.comfy_table.proofs.TakenClaimLemmas.{each_is_counted}
 use Rattle.comfy_table.proofs.TakingLemmas.{next_taken-where, every-claims_of}
 use Rattle.std.proofs.lemmas.List.{length-map}
 use Rattle.comfy_table.specs.Arrangement.{IsArranged, room_beside_borders}
@@ -115,8 +115,8 @@ module _ (room : ℕ) (columns : List ColumnNeeds) (fair : AllByRecursion HasEar
   every_content =
       every-map (λ (w : ℕ). 1 ≤ w) (λ (p : Positioned). claim_at (all_claims room columns steps) p.0) (places_of columns)
       (every-weaker (λ (p : Positioned). 0 < count_at p.0 (places_of columns)) (λ (p : Positioned). 1 ≤ claim_at (all_claims room columns steps) p.0) (places_of columns)
-      (λ p stands. claim_at-where (λ i w. 1 ≤ w) p.0 (all_claims room columns steps) every_claim (omega (arith, stands, count_at-all_claims room columns full steps widths arranged p.0)))
-      (every_stands (places_of columns)))
+      (λ p is_at. claim_at-where (λ i w. 1 ≤ w) p.0 (all_claims room columns steps) every_claim (omega (arith, is_at, count_at-all_claims room columns full steps widths arranged p.0)))
+      (each_is_counted (places_of columns)))
 
   -- each width is at least 1, with any constraints
   every_width_has_place : AllByRecursion (λ (w : ℕ). 1 ≤ w) widths

@@ -36,10 +36,10 @@ cut-is cut h lines = grind (arith, nat_tests, drop_all, drop_at, length-take)
 abbrev IsClosedLine : CellLine → Type 0
 IsClosedLine line = line.written ≡ closed line.measured
 
--- the line that is cut is such a line
-closed_behind : (w : ℕ) (indicator : Text) (limit : Option ℕ) (lines : List CellLine) → AllByRecursion IsClosedLine (drop (uncut_count limit lines) (cut_to_limit (cut_line true w indicator) limit lines))
-closed_behind w indicator None lines = subst (AllByRecursion IsClosedLine) (sym (drop_all (length lines) lines (omega arith))) tt
-closed_behind w indicator (Some h) lines =
+-- the line that is cut is written as it is measured, with its sequences closed
+closed_after : (w : ℕ) (indicator : Text) (limit : Option ℕ) (lines : List CellLine) → AllByRecursion IsClosedLine (drop (uncut_count limit lines) (cut_to_limit (cut_line true w indicator) limit lines))
+closed_after w indicator None lines = subst (AllByRecursion IsClosedLine) (sym (drop_all (length lines) lines (omega arith))) tt
+closed_after w indicator (Some h) lines =
     subst (AllByRecursion IsClosedLine) (sym (cut-is (cut_line true w indicator) h lines))
     (cond_both (nat_le (length lines) h) [] _ (AllByRecursion IsClosedLine) (λ _. tt) (λ _. each (take 1 (drop (h - 1) lines))))
   where
@@ -80,7 +80,7 @@ module _ (table : TableValue) (row : RowValue) (info : ColumnInfo) (cell : CellV
   pub cut_lines_are_closed : table.custom_styling ≡ true → CutLinesAreClosed table row info cell
   cut_lines_are_closed on =
       subst (λ custom. All IsClosedLine (drop (uncut_count row.max_height (uncut_lines custom w d cell)) (lines_with custom))) (sym on)
-      (All-from_recursion IsClosedLine (drop (uncut_count row.max_height (line_texts w d cell.text_lines)) (lines_with true)) (closed_behind w table.indicator row.max_height (line_texts w d cell.text_lines)))
+      (All-from_recursion IsClosedLine (drop (uncut_count row.max_height (line_texts w d cell.text_lines)) (lines_with true)) (closed_after w table.indicator row.max_height (line_texts w d cell.text_lines)))
 
   -- ---- properties of measured and written texts
 

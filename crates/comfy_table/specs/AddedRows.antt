@@ -25,8 +25,8 @@ module _ (table : TableValue) (infos : List ColumnInfo) where
   abbrev pub bottom_lines : List Text
   bottom_lines = optional_frame_line table.style table.style.bottom_border (outer_widths infos)
 
-  -- the lines that a further row adds: the row separator, if there is a row before it, and its own
-  -- lines
+  -- the lines that a further row adds: the row separator, if there is a row before it, and the
+  -- lines of the row
   abbrev pub added_lines : RowValue → List Text
   added_lines row =
       (if nat_lt 0 (length table.rows)
@@ -52,13 +52,15 @@ AddsBelow table row widths lines others =
     ++ (added_lines table (infos_of table widths) row
     ++ bottom_lines table (infos_of table widths)))
 
--- over the same widths, the row is added above the bottom border, and all other lines stay
+-- if both drawings have the same widths, the lines of the new row are added above the bottom
+-- border, and all other lines are unchanged
 abbrev pub RowIsAddedBelow : TableValue → RowValue → List ℕ → Type 0
 RowIsAddedBelow table row widths =
     HasColumnsFor table row
     → AddsBelow table row widths (drawing table widths) (drawing (with_row row table) widths)
 
--- all drawings keep their lines if no width is kept and no column gets wider
+-- in all drawings the old lines are unchanged, if the table keeps to no width and no column gets
+-- wider
 abbrev pub ShownLinesStay : TableValue → RowValue → List Text → List Text → Type 0
 ShownLinesStay table row lines others =
     width_kept table.arrangement (table_width table) ≡ None → HasColumnsFor table row

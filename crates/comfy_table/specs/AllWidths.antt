@@ -1,4 +1,4 @@
--- Private: the widths of all columns, made from the widths of the shown ones.
+-- Private: the widths of all columns, made from the widths of the shown columns.
 -- Source: this library's own.
 use Rattle.std.specs.Prelude.{ℕ, List, [], ◌∷◌, drop, max, slice_index_or, if◌then◌else◌}
 use Rattle.std.specs.List.{enumerate_from}

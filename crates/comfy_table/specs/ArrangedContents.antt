@@ -1,4 +1,4 @@
--- Tables with widths for their columns, whose rows may be kept elsewhere.
+-- Tables with widths for their columns, whose rows may be kept outside of the table.
 -- Source: this library's own.
 use Rattle.std.specs.Prelude.{List}
 use Rattle.comfy_parts.specs.CellValue.{ColumnInfo}

@@ -1,6 +1,6 @@
 -- The content widths of all columns of a table.
 -- Source: arrange_content of comfy-table 8.0.1.
-use Rattle.std.specs.Prelude.{◌≡◌, ℕ, ◌-◌, Bool, true, false, List, Option, None, map, length, filter, slice_index, max}
+use Rattle.std.specs.Prelude.{Bool, List, None, Option, false, filter, length, map, max, slice_index, true, ℕ, ◌-◌, ◌≡◌}
 use Rattle.std.specs.List.{enumerate_from}
 use Rattle.std.specs.Prelude.{MatchOption}
 use Rattle.comfy_parts.specs.CellValue.{ColumnInfo, ColumnValue, is_hidden_column}
@@ -18,7 +18,7 @@ abbrev pub width_kept : ContentArrangement → Option ℕ → Option ℕ
 width_kept Disabled width = None
 width_kept _ width = width
 
--- room that is left over is spread over all columns
+-- room that no column needs is spread over all columns
 abbrev pub is_full_width : ContentArrangement → Bool
 is_full_width DynamicFullWidth = true
 is_full_width _ = false
@@ -36,8 +36,8 @@ hidden_columns table =
 abbrev pub widths_at : List ℕ → List (ℕ × ColumnValue) → List ℕ
 widths_at widths columns = map (λ (p : ℕ × ColumnValue). slice_index widths p.0) columns
 
--- the content widths of the shown columns: by their own needs if no width is kept, and otherwise
--- dynamic
+-- the content widths of the shown columns: each from its own content and constraint if the table
+-- keeps to no width, and otherwise dynamic widths
 abbrev pub AreShownWidths : TableValue → List ℕ → Type 0
 AreShownWidths table widths =
     MatchOption (width_kept table.arrangement (table_width table))
@@ -45,7 +45,7 @@ AreShownWidths table widths =
     (λ w. IsDynamicLayout (room_beside_borders table w) (shown_needs table)
     (is_full_width table.arrangement) widths)
 
--- one content width for each column, in list order; that of a hidden column is its content's width
+-- one content width for each column, in list order; a hidden column has its content's width
 pub record IsArranged (table : TableValue) (widths : List ℕ) : Type 0 where
   pub one_for_each : length widths ≡ length table.columns
   pub hidden_widths : widths_at widths (hidden_columns table)

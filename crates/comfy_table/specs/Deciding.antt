@@ -11,7 +11,7 @@ use Rattle.comfy_table.specs.declared.utils.arrangement.dynamic.round_robin.Rule
 use Rattle.comfy_table.specs.declared.utils.arrangement.dynamic.round_robin.Rule.TheVariants.{Lower, Shrunk}
 use Rattle.comfy_table.specs.declared.utils.arrangement.dynamic.needs.WidthNeeds.{WidthNeeds}
 
--- the needs of a shown column, as they are kept beside the column
+-- the needs of a shown column, taken from the `WidthNeeds` of the code
 abbrev pub needs_in : TableValue → WidthNeeds → ColumnNeeds
 needs_in table v =
     record {
@@ -49,7 +49,7 @@ abbrev pub with_claims : List Claim → List (Option ℕ) → List (Option ℕ)
 with_claims claims widths =
     fold (λ (ws : List (Option ℕ)) (t : Claim). slice_set ws t.0 (Some t.1)) widths claims
 
--- these claims are taken, and no others
+-- the budget after exactly these claims are taken
 pub record HasTaken (claims : List Claim) (old new : Budget) : Type 0 where
   pub widths : new.widths.items ≡ with_claims claims old.widths.items
   pub room : new.room ≡ old.room - total claims
@@ -82,7 +82,7 @@ HasGoneRound rule needs old new =
     (offer_by_rule rule old.room (undecided_among needs old.widths.items)) order
     × HasTaken order old new
 
--- the columns that a level settles have their widths
+-- the columns to which the level gives a width have this width
 abbrev pub HasSettled : List ColumnNeeds → Budget → Budget → Type 0
 HasSettled needs old new =
     (level : Option ℕ) × IsLevel old.room (undecided_among needs old.widths.items) level

@@ -1,4 +1,4 @@
--- Private: the cells of a row as its shown columns draw them.
+-- Private: the cells of a row in its shown columns, with their pieces.
 -- Source: this library's own.
 use Rattle.std.specs.Prelude.{◌≡◌, ◌≤◌, ◌-◌, ℕ, List, [], ◌∷◌, ◌++◌, Option, Some, None, map, length, slice_index_or, take, if◌then◌else◌}
 use Rattle.std.specs.List.{All}
@@ -58,7 +58,7 @@ pub record AreFurther (further cells : List DrawnCell) : Type 0 where
 abbrev pub without_piece : ℕ × ColumnInfo → DrawnCell
 without_piece p = record { info = p.1; pieces = [] }
 
--- the last columns with these cells, and the columns before them without pieces
+-- the last columns with these cells, and before them the other columns without pieces
 abbrev pub filled : List (ℕ × ColumnInfo) → List DrawnCell → List DrawnCell
 filled columns further =
     map without_piece (take (length columns - length further) columns) ++ further

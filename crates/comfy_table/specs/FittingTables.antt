@@ -6,7 +6,7 @@ use Rattle.comfy_parts.specs.Columns.{AddsOneColumn, CharactersFit, IsApart, IsO
 use Rattle.comfy_parts.specs.Text.{Text}
 use Rattle.comfy_table.specs.Headline.{IsTableDrawing}
 use Rattle.comfy_table.specs.Lines.{cell_delimiter}
-use Rattle.comfy_table.specs.Straight.{EachCell, IsStraightTable, TextsStandApart}
+use Rattle.comfy_table.specs.Straight.{EachCell, IsStraightTable, TextsAreApart}
 use Rattle.comfy_table.specs.TableValue.{TableValue}
 
 -- each character of the cell's text lines fits its column
@@ -24,6 +24,6 @@ pub record FitsByCharacters (table : TableValue) (row : RowValue) (info : Column
 -- the table is straight, if each character of the style adds one terminal column and no texts touch
 abbrev pub FittingTablesAreStraight : TableValue → List Text → Type 0
 FittingTablesAreStraight table lines =
-    (drawing : IsTableDrawing table lines) → IsOneColumnStyle table.style → TextsStandApart table
+    (drawing : IsTableDrawing table lines) → IsOneColumnStyle table.style → TextsAreApart table
     → EachCell (FitsByCharacters table) table drawing.widths
     → IsStraightTable table drawing.widths

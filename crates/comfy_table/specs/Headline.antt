@@ -100,10 +100,10 @@ pub record KeepsKnownWidth (table : TableValue) (widths : List ℕ) : Type 0 whe
       → (steps : Steps) × LeadToWidths table w true widths steps
       × LineWidthsSatisfy (λ n. n ≡ max w (wider_total table steps)) table widths
 
--- except for sequences the lines are the unstyled ones, and with custom styling no sequence stays
--- open
+-- except for SGR sequences the lines are the unstyled lines, and with custom styling no sequence
+-- stays open
 pub record ClosesSequences (table : TableValue) (widths : List ℕ) (lines : List Text) : Type 0 where
-  -- without their sequences the lines are the unstyled ones, if nothing else has ESC
+  -- without their SGR sequences the lines are the unstyled lines, if nothing else has ESC
   pub without_sequences : IsFreeOfEscapes table
       → map visible_text lines ≡ drawing (unstyled table) widths
   -- so the visible texts of the lines of a straight table are equally wide too

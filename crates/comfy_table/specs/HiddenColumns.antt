@@ -38,7 +38,7 @@ IsDrawnWithoutHidden table lines =
     × (IsDrawingOf (without_hidden table) lines → IsDrawingOf table lines)
 
 -- tables that differ only in hidden columns have the same drawing
-abbrev pub HiddenColumnsTellNothing : TableValue → TableValue → List Text → List Text → Type 0
-HiddenColumnsTellNothing table other lines others =
+abbrev pub HiddenColumnsChangeNothing : TableValue → TableValue → List Text → List Text → Type 0
+HiddenColumnsChangeNothing table other lines others =
     without_hidden table ≡ without_hidden other → IsDrawingOf table lines → IsDrawingOf other others
     → lines ≡ others

@@ -201,7 +201,7 @@ TerminatedLinesAreFound lines =
 -- ---- custom styling
 
 -- with custom styling no sequence is open at the end of a line's text, before the cell's own
--- styling begins; this holds of cut lines too
+-- styling begins; this also holds for cut lines
 abbrev pub NoneIsOpenAtTheEnd : TableValue → RowValue → ColumnInfo → CellValue → Type 0
 NoneIsOpenAtTheEnd table row info cell =
     All (λ (line : CellLine). open_after (parts line.written) ≡ [])

@@ -1,5 +1,5 @@
--- New tables with nothing but a style, a header and rows: the widths of their lines, and the
--- sequences in these.
+-- New tables with nothing but a style, a header and rows: the widths of their lines, and the SGR
+-- sequences in the lines.
 -- Source: this library's own.
 use Rattle.std.specs.Prelude.{◌≡◌, ℕ, ◌≤◌, List, None, All, true}
 use Rattle.comfy_parts.specs.CellValue.{CellValue, RowValue}

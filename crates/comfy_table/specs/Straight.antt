@@ -15,8 +15,8 @@ use Rattle.comfy_table.specs.TableValue.{TableValue, measured_rows, table_width,
 
 -- no texts of two columns touch: vertical lines are drawn, or each shown column has a padding at
 -- its left, or each has one at its right
-abbrev pub TextsStandApart : TableValue → Type 0
-TextsStandApart table =
+abbrev pub TextsAreApart : TableValue → Type 0
+TextsAreApart table =
     (draws_vertical_lines table.style ≡ true)
     ⊎ (All (λ (p : ℕ × ColumnValue). 1 ≤ p.1.padding.0) (shown_columns table)
     ⊎ All (λ (p : ℕ × ColumnValue). 1 ≤ p.1.padding.1) (shown_columns table))
@@ -64,6 +64,6 @@ pub record IsShownWhole (table : TableValue) : Type 0 where
 -- texts.
 pub record IsStraightTable (table : TableValue) (widths : List ℕ) : Type 0 where
   pub characters : IsOneColumnStyle table.style
-  pub apart : TextsStandApart table
+  pub apart : TextsAreApart table
   pub fits : EachCell (CellLinesFit table) table widths
       ⊎ (EachCell (TextsFit table) table widths ⊎ IsShownWhole table)

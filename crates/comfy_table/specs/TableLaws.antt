@@ -41,7 +41,7 @@ FrameKeepsToWidth table w widths line =
     → count (frame_line table.style line (outer_widths (infos_of table widths)))
     ≤ max w (least_total table)
 
--- under `DynamicFullWidth` it has exactly that many characters, if a column is shown
+-- under `DynamicFullWidth` a frame line has exactly that many characters, if a column is shown
 abbrev pub FrameFillsWidth : TableValue → ℕ → List ℕ → LineStyle → Type 0
 FrameFillsWidth table w widths line =
     NoConstraints table → table.arrangement ≡ DynamicFullWidth → table_width table ≡ Some w
@@ -76,7 +76,7 @@ KeepsToWiderTotalInFull table w widths =
     (shown_contents table widths)
     × (line_total table widths ≤ max w (wider_total table steps))
 
--- under `DynamicFullWidth` it has exactly that width, if a column is shown
+-- under `DynamicFullWidth` a line has exactly that width, if a column is shown
 abbrev pub FillsWiderTotal : TableValue → ℕ → List ℕ → Type 0
 FillsWiderTotal table w widths =
     table.arrangement ≡ DynamicFullWidth → table_width table ≡ Some w → 0 < shown_count table
@@ -95,7 +95,7 @@ TableIsLevelled table w widths =
     → IsArranged table widths
     → IsLevelled (room_beside_borders table w) (shown_needs table) (shown_contents table widths)
 
--- under `DynamicFullWidth` they keep to a level, and fill the room
+-- under `DynamicFullWidth` the shown columns keep to a level, and fill the room
 abbrev pub TableIsFull : TableValue → ℕ → List ℕ → Type 0
 TableIsFull table w widths =
     NoConstraints table → table.arrangement ≡ DynamicFullWidth → table_width table ≡ Some w
@@ -149,8 +149,8 @@ ShrinkingKeepsLinesOf narrower b d cell =
     All (λ (text : Text). AllZip (SameButOneDelimiter d) (lines_of_text narrower d text)
     (lines_of_text b d text)) cell.text_lines
 
--- if the longest line of a column at width b leaves three or more terminal columns of b free, all
--- its cells keep their lines at the width of that line
+-- if the longest line of a column at width b leaves three or more terminal columns free, all cells
+-- of the column keep their lines at the width of this line
 abbrev pub ShrinkingKeepsCells : TableValue → ℕ × ColumnValue → ℕ → Type 0
 ShrinkingKeepsCells table p b =
     All (IsPrintableCell table p.1.delimiter) (column_cells table p.0)

@@ -1,4 +1,5 @@
--- The final value of a table after a call that lends it, or a part of it.
+-- The final value of a table after a call that returns a mutable reference to the table or to a
+-- part of it.
 -- Source: this library's own.
 use Rattle.std.specs.Prelude.{ℕ, List, Option, Result, length, slice_set}
 use Rattle.std.specs.Borrow.{Fml, MutBor, Array, Lends, LendsIf, LendsIfOk, RestsIfErr, follows}
@@ -24,17 +25,20 @@ abbrev pub TableHasFirstRowsIfErr : {E : Type 0} → List RowValue → MutBor Ta
 TableHasFirstRowsIfErr rows t r =
     RestsIfErr table.the_row t (λ x. x.ghost_name) r (IsWithRowsBeforeOne rows t.now)
 
--- the column at i is the last one that was written, and nothing else of the table changes
+-- the column at i has the last value that was written through the reference, and nothing else of
+-- the table changes
 abbrev pub LendsColumn : MutBor TableValue → ℕ → Option (MutBor ColumnValue) → Fml
 LendsColumn t i r =
     LendsIf table.the_row column.the_row t r
     (λ c. record t.now { columns = slice_set t.now.columns i c }) t.now
 
--- the style is the last one that was written, and nothing else of the table changes
+-- the style has the last value that was written through the reference, and nothing else of the
+-- table changes
 abbrev pub LendsStyle : MutBor TableValue → MutBor TableStyle → Fml
 LendsStyle t r = Lends table.the_row style.the_row t r (λ s. record t.now { style = s })
 
--- the columns are the last ones that were written, and nothing else of the table changes
+-- the columns have the last values that were written through the references, and nothing else of
+-- the table changes
 abbrev pub LendsColumns : MutBor TableValue → IterMut ColumnValue → Fml
 LendsColumns t it =
     follows table.the_row (Array column.the_row 0) t.ghost_name (iter_mut_name it)
@@ -42,13 +46,15 @@ LendsColumns t it =
       columns = refill (length t.now.columns) t.now.columns cs;
     })
 
--- the row at i is the last one that was written, and nothing else of the table changes
+-- the row at i has the last value that was written through the reference, and nothing else of the
+-- table changes
 abbrev pub LendsRow : MutBor TableValue → ℕ → Option (MutBor RowValue) → Fml
 LendsRow t i r =
     LendsIf table.the_row row.the_row t r
     (λ c. record t.now { rows = slice_set t.now.rows i c }) t.now
 
--- the rows are the last ones that were written, and nothing else of the table changes
+-- the rows have the last values that were written through the references, and nothing else of the
+-- table changes
 abbrev pub LendsRows : MutBor TableValue → IterMut RowValue → Fml
 LendsRows t it =
     follows table.the_row (Array row.the_row 0) t.ghost_name (iter_mut_name it)

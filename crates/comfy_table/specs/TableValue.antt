@@ -28,7 +28,7 @@ pub record TableValue : Type 0 where
   pub style_text_only : Bool
   pub custom_styling : Bool
 
--- a terminal of which nothing is known
+-- a terminal about which nothing is known
 abbrev pub no_terminal : Terminal
 no_terminal = record { stdout_is_tty = false; stderr_is_tty = false; width = None }
 
@@ -61,13 +61,14 @@ new_table style =
       custom_styling = false;
     }
 
--- the table with this header, and columns appended until there are as many as the header has cells
+-- the table with this header, and columns appended until there are at least as many as the header
+-- has cells
 abbrev pub with_header : RowValue → TableValue → TableValue
 with_header row table =
     record table { header = Some row; columns = columns_grown_to (length row.cells) table.columns }
 
--- the table with this row appended, and columns appended until there are as many as the row has
--- cells
+-- the table with this row appended, and columns appended until there are at least as many as the
+-- row has cells
 abbrev pub with_row : RowValue → TableValue → TableValue
 with_row row table =
     record table {
@@ -83,7 +84,7 @@ with_rows rows table = fold (λ (t : TableValue) (row : RowValue). with_row row 
 abbrev pub with_other_rows : List RowValue → TableValue → TableValue
 with_other_rows rows table = record table { rows = rows }
 
--- after one of some rows was refused: exactly the rows before it were appended
+-- after memory ran out at one of these rows: exactly the rows before it were appended
 abbrev pub IsWithRowsBeforeOne : List RowValue → TableValue → TableValue → Type 0
 IsWithRowsBeforeOne rows old new = (n : ℕ) × (n < length rows) × (new ≡ with_rows (take n rows) old)
 
@@ -102,7 +103,7 @@ pub record KeepsParts (table : TableValue) : Type 0 where
 abbrev pub greatest_cell_count : List RowValue → ℕ
 greatest_cell_count rows = greatest (map (λ (row : RowValue). length row.cells) rows)
 
--- the table with columns appended until there are as many as the longest row has cells
+-- the table with columns appended until each cell of a row has a column
 abbrev pub discovered : TableValue → TableValue
 discovered table =
     record table { columns = columns_grown_to (greatest_cell_count table.rows) table.columns }
@@ -133,8 +134,8 @@ abbrev pub cells_with_header : TableValue → ℕ → List (Option CellValue)
 cells_with_header table i =
     option_and_then (λ (row : RowValue). slice_get row.cells i) table.header ∷ cells_by_row table i
 
--- the output is a terminal: not after `force_no_tty`, and otherwise according to the facts about
--- standard output or standard error, whichever is in use
+-- the output is a terminal: not after `force_no_tty`, and otherwise according to the fact about
+-- standard error after `use_stderr`, or else about standard output
 abbrev pub is_tty : TableValue → Bool
 is_tty table =
     not table.no_tty && (if table.use_stderr

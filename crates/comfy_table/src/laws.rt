@@ -1,7 +1,10 @@
-//! Laws: what holds of all tables beyond the clauses of their functions. Each function here does
-//! nothing. Its clauses are the law, so that a caller's proof can cite it. `IsArranged table
-//! widths` says that the columns of a table have these widths; `arrange_content` returns them. The
-//! laws of wrapping are re-exported here too.
+//! Laws: facts that hold for all tables, and that no clause of a function of `Table` states. Each
+//! function here does nothing. Its clauses are the law, so a caller's proof gets the law by calling
+//! the function. `IsArranged table widths` means that the columns of a table have these content
+//! widths, which `arrange_content` returns. The laws of wrapping are re-exported here too.
+//!
+//! In the laws of widths, the *content* of a column is the width of its widest text line, at most
+//! 65535 terminal columns. The *room* is the table's width less all borders and paddings.
 
 ghost use Rattle.std.specs.Prelude.{ℕ, Bool, List};
 ghost use Rattle.comfy_parts.specs.CellValue.{CellValue, ColumnInfo, ColumnValue, NoFewerColumns, RowValue};
@@ -10,7 +13,7 @@ ghost use Rattle.comfy_parts.specs.declared.style.table_style.LineStyle.{LineSty
 ghost use Rattle.comfy_parts.specs.declared.style.table_style.TableStyle.{TableStyle};
 ghost use Rattle.comfy_table.specs.AddedRows.{DrawingIsOne, RowIsAddedBelow, ShownLinesStay};
 ghost use Rattle.comfy_table.specs.FittingTables.{FittingTablesAreStraight};
-ghost use Rattle.comfy_table.specs.HiddenColumns.{HiddenColumnsTellNothing, IsDrawnWithoutHidden};
+ghost use Rattle.comfy_table.specs.HiddenColumns.{HiddenColumnsChangeNothing, IsDrawnWithoutHidden};
 ghost use Rattle.comfy_table.specs.Laws.{CellKeepsItsText, DynamicIsOne, FillsWidth, IsFreeOfControls, IsFreeOfEscapes, JoinedLinesAreFound, KeepsToWidth, NoLinesAreOneEmptyLine, TerminatedLinesAreFound};
 ghost use Rattle.comfy_table.specs.NewTables.{NewTablesAreStraight, NewTablesLeaveNoneOpen};
 ghost use Rattle.comfy_table.specs.Parts.{AllRowsAreTheTable, PartHasLinesOfTable, PartIsUnstyled};
@@ -22,31 +25,32 @@ pub use comfy_parts::laws::{
     active_sequences_are_resumed, attributes_are_ordered, cells_are_equal_by_their_values,
     colors_are_ordered, cut_lines_are_full, head_is_longest, lines_are_few, lines_are_fewest,
     lines_end_at_the_first_full_element, lines_fit, lines_keep_the_text,
-    lines_leave_no_sequence_open, lines_of_every_script_fit, narrow_elements_stay_whole,
-    neighbours_fill_a_line, one_character_takes_three_columns, presets_have_columns_of_one,
+    lines_leave_no_sequence_open, lines_of_fitting_texts_fit, narrow_elements_stay_whole,
+    neighbours_fill_a_line, one_character_takes_three_columns, preset_characters_take_one_column,
     printable_adds_one_column_each, printable_measures_its_length,
-    sequences_are_taken_out_in_one_pass, sequences_count_nothing,
+    sequences_are_taken_out_in_one_pass, sequences_take_no_columns,
     spaces_and_borders_add_one_column, wrapped_lines_are_one_list,
 };
 
-/// Appending columns for a row of n cells gives as many columns as before or n, whichever is more.
+/// The number of columns after columns are appended for a row of n cells is n, or the number
+/// before, if that is greater.
 #[tactic(auto, using(comfy_parts::proofs::CallerLemmas::no_fewer_columns))]
 pub fn columns_only_grow()
     ensures { (n : ℕ) (columns : List ColumnValue) → NoFewerColumns n columns }
 {}
 
-/// A frame line has as many characters as the borders and the whole widths of the shown columns
-/// take together, whatever the texts are.
+/// The number of characters of a frame line is the number of its border characters plus the widths
+/// of the shown columns with their paddings, whatever the texts are.
 #[tactic(auto, using(crate::proofs::TableLemmas::frame_counts))]
 pub fn frame_lines_have_one_count()
     ensures { (table : TableValue) (widths : List ℕ) (line : LineStyle)
         → FrameCounts table widths line }
 {}
 
-/// Let no shown column have a constraint. Under `Dynamic` a frame line has at most as many
-/// characters as the set width, or as the borders, the paddings and one character for each shown
-/// column, whichever is more. Under `DynamicFullWidth` it has exactly that many, if a column is
-/// shown.
+/// Let W be the table's width, and let no shown column have a constraint. Let F be the number of
+/// border and padding characters in a line, plus one for each shown column. Under `Dynamic` a frame
+/// line has at most max(W, F) characters. Under `DynamicFullWidth` a frame line has exactly max(W,
+/// F) characters, if a column is shown.
 pub fn frame_lines_keep_to_the_width()
     ensures dynamic { (table : TableValue) (w : ℕ) (widths : List ℕ) (line : LineStyle)
         → FrameKeepsToWidth table w widths line }
@@ -54,27 +58,28 @@ pub fn frame_lines_keep_to_the_width()
         → FrameFillsWidth table w widths line }
 {}
 
-/// Lines without line feeds can be found again in their joined text. If there is a line, they are
-/// the texts between the line feeds. No lines give the same text as one empty line. If each line is
-/// followed by a line feed, an empty text comes after the last one.
+/// Let lines without line feeds be joined by line feeds. If there is at least one line, splitting
+/// the joined text at line feeds gives the lines again. No lines give the same joined text as one
+/// empty line. If instead each line is followed by a line feed, splitting that text gives the
+/// lines, and an empty text after the last line.
 pub fn lines_are_found_in_their_texts()
     ensures joined { (lines : List Text) → JoinedLinesAreFound lines }
     ensures none { NoLinesAreOneEmptyLine }
     ensures terminated { (lines : List Text) → TerminatedLinesAreFound lines }
 {}
 
-/// A table without control characters has no ESC, which is one of them. So its lines without their
-/// sequences are its drawing without styling (field `sequences.without_sequences` of
-/// `IsTableDrawing`).
+/// Shown texts, style and indicator have no ESC if they have no control character, because ESC is a
+/// control character. Therefore the lines without their SGR sequences are the drawing without
+/// colours and attributes: see the field `sequences.without_sequences` of `IsTableDrawing`.
 pub fn tables_without_controls_have_no_escape()
     ensures { (table : TableValue) → IsFreeOfControls table → IsFreeOfEscapes table }
 {}
 
-/// A drawn table is straight (`IsStraightTable`), so all its lines are equally wide, under
-/// conditions on single characters. Each character of each text fits its column, and U+FE01 is
-/// nowhere directly beside U+FE0E or U+FE0F. Each delimiter and each character of the style adds
-/// one terminal column. No texts of two columns touch. If a row has a greatest height, no text
-/// joins the indicator.
+/// A table is straight (`IsStraightTable`), so that all its lines are equally wide, under these
+/// conditions on single characters. Each character of each text is at most as wide as its column,
+/// and U+FE01 is nowhere directly next to U+FE0E or U+FE0F. Each delimiter and each character of
+/// the style adds one terminal column. The texts of two columns never touch. If a row has a
+/// greatest height, the indicator adds its own width to any text before it.
 pub fn tables_of_fitting_characters_are_straight()
     ensures { (table : TableValue) (lines : List Text) → FittingTablesAreStraight table lines }
 {}
@@ -85,33 +90,36 @@ pub fn the_ellipsis_adds_one_column()
     ensures { AddsOneColumnEach ellipsis }
 {}
 
-/// A new table with a header and rows has straight edges, if each character of its style adds one
-/// terminal column: all lines take the same number of terminal columns, for texts of every script.
-/// No row may have a greatest height, and no text line more than 65535 terminal columns.
+/// All lines of a new table with a header and rows take the same number of terminal columns, for
+/// texts of every script. The conditions are: each character of the style adds one terminal column,
+/// no row has a greatest height, and no text line takes more than 65535 terminal columns.
 pub fn new_tables_are_straight()
     ensures { (style : TableStyle) (header : RowValue) (rows : List RowValue) (lines : List Text)
         → NewTablesAreStraight style header rows lines }
 {}
 
-/// A new table with `custom_styling`, a header and rows, in a style without ESC, leaves no sequence
-/// open after any of its lines, whatever the texts are.
+/// No line of a new table with `custom_styling`, a header and rows leaves an SGR sequence open,
+/// whatever the texts are. The condition is that the style has no ESC.
 pub fn new_tables_leave_no_sequence_open()
     ensures { (style : TableStyle) (header : RowValue) (rows : List RowValue) (lines : List Text)
         → NewTablesLeaveNoneOpen style header rows lines }
 {}
 
-/// Let no shown column have a constraint. The borders and whole widths together are at most the set
-/// width, or the borders, the paddings and one terminal column for each shown column, whichever is
-/// more. Under `DynamicFullWidth` they are exactly that wide, if a column is shown.
+/// Let W be the table's width, and let no shown column have a constraint. Let F be the terminal
+/// columns of borders and paddings, plus one for each shown column. Under `Dynamic` the borders and
+/// the widths of the shown columns, with paddings, are together at most max(W, F). Under
+/// `DynamicFullWidth` this sum is exactly max(W, F), if a column is shown.
 pub fn widths_keep_to_the_width()
     ensures dynamic { (table : TableValue) (w : ℕ) (widths : List ℕ) → KeepsToWidth table w widths }
     ensures full { (table : TableValue) (w : ℕ) (widths : List ℕ) → FillsWidth table w widths }
 {}
 
-/// With any constraints, the borders and whole widths together are at most the set width or a least
-/// total, whichever is more. The total is the sum of the borders, the whole widths of the columns
-/// that a constraint decides first, and the paddings and one terminal column for each other column.
-/// Under `DynamicFullWidth` they are exactly that wide, if a column is shown.
+/// This law is `widths_keep_to_the_width` for columns with any constraints. Let W be the table's
+/// width. Let T be the terminal columns of borders and paddings, plus a number for each shown
+/// column. The number is the width without paddings that a constraint fixes or a lower boundary
+/// decides, and 1 for any other column. Under `Dynamic` the borders and the widths of the shown
+/// columns, with paddings, are together at most max(W, T). Under `DynamicFullWidth` this sum is
+/// exactly max(W, T), if a column is shown.
 pub fn widths_keep_to_the_wider_total()
     ensures dynamic { (table : TableValue) (w : ℕ) (widths : List ℕ)
         → KeepsToWiderTotal table w widths }
@@ -120,66 +128,83 @@ pub fn widths_keep_to_the_wider_total()
     ensures full { (table : TableValue) (w : ℕ) (widths : List ℕ) → FillsWiderTotal table w widths }
 {}
 
-/// A dynamic arrangement has one list of widths.
+/// The widths under `Dynamic` and `DynamicFullWidth` are unique: two lists of widths that the steps
+/// of `IsDynamicLayout` allow are equal.
 pub fn dynamic_widths_are_one_list()
     ensures { (room : ℕ) (columns : List ColumnNeeds) (full : Bool) (widths others : List ℕ)
         → DynamicIsOne room columns full widths others }
 {}
 
-/// Without constraints, and with room for one terminal column in each column, there is one level.
-/// Columns whose content is at most the level get their content as their width. Each other column
-/// gets at least the level, or the width that its lines need.
+/// The room is the table's width less its borders and paddings, and the content of a column is the
+/// width of its widest text line. Let no shown column have a constraint, and let the room be at
+/// least one terminal column for each shown column. Then there is a number of terminal columns, the
+/// level, which is at least an even share of the room. Under `Dynamic`, a column whose content is
+/// at most the level is as wide as its content, but at least 1. Any other column is at least as
+/// wide as the level, or as wide as its longest line at some width of at least the level. Under
+/// `DynamicFullWidth` the rest of the room is then added evenly to these widths. If the room isn't
+/// enough, all widths are 1.
 pub fn dynamic_widths_are_levelled()
     ensures dynamic { (table : TableValue) (w : ℕ) (widths : List ℕ)
         → TableIsLevelled table w widths }
     ensures full { (table : TableValue) (w : ℕ) (widths : List ℕ) → TableIsFull table w widths }
 {}
 
-/// Under `Dynamic` and without constraints the level is the best one: if a content is above it, no
-/// widths within the room give each column its content or one more than the level.
+/// The level of the law `dynamic_widths_are_levelled`, which is a number of terminal columns, is
+/// the greatest that is possible. Let the arrangement be `Dynamic`, let no shown column have a
+/// constraint, and let the widest text line of some column be wider than the level. Then the room
+/// isn't enough to give each column the lesser of two widths: that of its widest text line, and one
+/// terminal column more than the level. The room is the table's width less its borders and
+/// paddings.
 #[tactic(auto, using(crate::proofs::TableLemmas::table_level_is_best))]
 pub fn the_level_is_the_best()
     ensures { (table : TableValue) (w level : ℕ) (widths : List ℕ)
         → TableLevelIsBest table w level widths }
 {}
 
-/// Without constraints, and if all contents fit the set width together with borders and paddings,
-/// `Dynamic` makes each column as wide as its content, and at least 1.
+/// Let no shown column have a constraint, and let the borders, paddings and contents of the shown
+/// columns together be at most the table's width. Then `Dynamic` makes each shown column as wide as
+/// its content, but at least 1. The content of a column is the width of its widest text line.
 pub fn contents_that_fit_are_kept()
     ensures { (table : TableValue) (w : ℕ) (widths : List ℕ) → TableKeepsContents table w widths }
 {}
 
-/// For printable ASCII and without constraints, `Dynamic` makes no column more than three terminal
-/// columns wider than its content.
+/// Let texts and delimiters be printable ASCII, let no shown column have a constraint, and let the
+/// table's width be at most 65535. Then `Dynamic` makes no shown column more than three terminal
+/// columns wider than its content, which is the width of its widest text line.
 pub fn columns_are_at_most_three_wider()
     ensures { (table : TableValue) (w : ℕ) (widths : List ℕ) → IsAtMostThreeOver table w widths }
 {}
 
-/// For printable ASCII, making a column as narrow as its longest line keeps its lines, except for
-/// at most one delimiter at the end of each.
+/// Let the texts and delimiters of a column be printable ASCII, and let its longest line leave at
+/// least three terminal columns of the column free. If the column is made as narrow as this line,
+/// its cells have the same lines, except for at most one delimiter at the end of each line.
 #[tactic(auto, using(crate::proofs::ColumnLemmas::shrinking_keeps_cells))]
 pub fn shrinking_keeps_the_lines()
     ensures { (table : TableValue) (p : ℕ × ColumnValue) (b : ℕ) → ShrinkingKeepsCells table p b }
 {}
 
-/// The lines of a cell that no height cuts, as they are measured, have all characters of its text
-/// in order, except for delimiters. A cell is drawn as these lines with paddings and spaces, and
-/// with sequences if styles are written.
+/// The lines of a cell have all characters of its text in order, except for delimiters, if no
+/// greatest height cuts the cell. With `custom_styling`, lines and text count without their SGR
+/// sequences. A cell is drawn as these lines with paddings and spaces, and with SGR sequences if
+/// colours and attributes are written.
 #[tactic(auto, using(crate::proofs::KeptLemmas::cell_keeps_its_text))]
 pub fn cells_keep_their_text()
     ensures { (table : TableValue) (row : RowValue) (info : ColumnInfo) (cell : CellValue)
         → CellKeepsItsText table row info cell }
 {}
 
-/// A table has one drawing: two lists of lines that the clauses of `Table::lines` allow are equal.
+/// A table has only one drawing: two lists of lines that the clauses of `Table::lines` allow are
+/// equal.
 pub fn drawings_are_one()
     ensures { (table : TableValue) (lines others : List Text) → DrawingIsOne table lines others }
 {}
 
-/// Lines that were drawn stay the same if a row is added, over the same widths. The lines of the
-/// new row come above the bottom border, after the row separator if there is a row before it. If no
-/// width is kept, as under `Disabled`, this holds of all drawings, if each cell of the new row has
-/// a column and is at most as wide as the column's content.
+/// The lines that a table already had don't change if a row is added at its end. The lines of the
+/// new row come directly above the bottom border, after a row separator if the table already had a
+/// row. This holds for two drawings with the same widths of columns, if each cell of the new row
+/// has a column. If the table keeps to no width, as under `Disabled`, this holds for all drawings.
+/// Each cell of the new row must then also be at most as wide as the widest text line in its
+/// column.
 pub fn shown_lines_stay()
     ensures same_widths { (table : TableValue) (row : RowValue) (widths : List ℕ)
         → RowIsAddedBelow table row widths }
@@ -187,17 +212,18 @@ pub fn shown_lines_stay()
         → ShownLinesStay table row lines others }
 {}
 
-/// Hidden columns have no effect. A table has the drawing that it would have without its hidden
-/// columns and their cells, so tables that differ only in these have the same lines.
-pub fn hidden_columns_tell_nothing()
+/// A table has the same drawing as it would have without its hidden columns and their cells.
+/// Therefore tables that differ only in hidden columns and their cells have the same lines.
+pub fn hidden_columns_change_nothing()
     ensures removed { (table : TableValue) (lines : List Text) → IsDrawnWithoutHidden table lines }
     ensures same { (table other : TableValue) (lines others : List Text)
-        → HiddenColumnsTellNothing table other lines others }
+        → HiddenColumnsChangeNothing table other lines others }
 {}
 
-/// Each line of a part of a table is a line of the whole table over the same widths, so a property
-/// of all lines of the table holds of the part's lines too. A part without styling is this part of
-/// the table without styling. The part of all rows is the whole table.
+/// A part of a table has only some of its rows, one after another, but the widths of the whole
+/// table. Each line of a part is a line of the whole table. So a property of all lines of the table
+/// also holds for all lines of the part. Leaving out colours and attributes first, and then taking
+/// the part, gives the same as the other way round. The part with all rows is the whole table.
 pub fn parts_have_lines_of_the_table()
     ensures lines { (table : TableValue) (infos : List ColumnInfo) (first count : ℕ)
         → PartHasLinesOfTable table infos first count }

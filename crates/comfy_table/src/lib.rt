@@ -1,8 +1,9 @@
 //! Tables drawn as text: made from cells, arranged, and framed.
 //!
-//! The functions of `laws` have empty bodies and do nothing when they run. They exist because only
-//! a clause of a function can be proved, and because a caller's proof gets a clause by calling its
-//! function. Their clauses are laws that no other function has.
+//! The functions of `laws` have empty bodies and do nothing when they run. Their clauses are laws:
+//! facts that hold for all tables, and that no clause of another function states. A law is a
+//! function because only a clause of a function can be proved, and because a caller's proof gets a
+//! clause by calling its function.
 #![tactic(auto)]
 
 pub mod for_records;
@@ -27,8 +28,9 @@ pub use table::row_writer::RowWriter;
 pub use table::terminal::Terminal;
 pub use utils::formatting::drawing::PartEnds;
 
-/// A row of values of different types, as an array of cells. Each value has a type that a cell can
-/// be made of (`IntoCell`). The macro uses `?`, so it needs a function that returns a `Result`.
+/// A row of values of different types, as an array of cells. Each value has a type from which a
+/// cell can be made (`IntoCell`). The macro uses `?`, so call it in a function that returns a
+/// `Result`. The only error is `OutOfMemory`.
 ///
 /// ```
 /// table.add_row(row![alloc; "17", 12u32, true])?;

@@ -27,7 +27,8 @@ use std::alloc::{AllocError, Global};
 use std::marker::Model;
 use terminal::Terminal;
 
-/// A table. It is built row by row, and drawn by `lines`, `to_text` or `trim_fmt`.
+/// A table of a header, rows and columns, with its settings. It is built row by row, and drawn by
+/// `lines`, `to_text`, `to_terminated_text` or `trim_fmt`.
 ///
 /// ```
 /// let mut table = Table::new(alloc);
@@ -87,7 +88,7 @@ impl Model for Table {
 
     ghost Value = { TableValue };
 
-    // a delimiter is a character
+    // a delimiter that is set is a character
     ghost invariant = { λ t. IsDelimiter t.delimiter };
 
     ghost view = { λ t. record {
@@ -109,7 +110,8 @@ impl Model for Table {
 }
 
 impl Table {
-    /// A table without header, rows and columns, in the style `ASCII_FULL`. Takes no memory.
+    /// An empty table in the style `ASCII_FULL`, without header, rows or columns. The call takes no
+    /// memory.
     pub fn new(alloc: Global) -> Table
         ensures { result ≡ new_table ascii_full }
     {
@@ -131,10 +133,10 @@ impl Table {
         }
     }
 
-    /// Replaces the header, and appends default columns until there are as many as the header has
-    /// cells. Returns the table for further calls. After `OutOfMemory` the table is unchanged and
-    /// the new header is dropped. A caller's own proof can use this only if it calls
-    /// `try_set_header` instead.
+    /// Replaces the header. Then appends columns with default settings until the table has at least
+    /// as many columns as the header has cells. Returns the table for further calls. After
+    /// `OutOfMemory` the table is unchanged and the new header is dropped. To use this fact in a
+    /// proof of your own, call `try_set_header` instead.
     ///
     /// ```
     /// table
@@ -149,9 +151,10 @@ impl Table {
         into_reference(self.with_header_set(row))
     }
 
-    /// Appends a row, and default columns until there are as many as the row has cells. Returns the
-    /// table for further calls. After `OutOfMemory` the table is unchanged and the row is dropped.
-    /// A caller's own proof can use this only if it calls `try_add_row` instead.
+    /// Appends a row. Then appends columns with default settings until the table has at least as
+    /// many columns as the row has cells. Returns the table for further calls. After `OutOfMemory`
+    /// the table is unchanged and the row is dropped. To use this fact in a proof of your own, call
+    /// `try_add_row` instead.
     ///
     /// ```
     /// table.add_row(["17", "dock 3"])?.add_row((18u32, "rented"))?;
@@ -164,9 +167,9 @@ impl Table {
         into_reference(self.with_row_added(row))
     }
 
-    /// Replaces the header, and appends default columns until there are as many as the header has
-    /// cells. Use it to go on with the table after `OutOfMemory`: the table is then unchanged and
-    /// the new header is dropped, and the caller's own proof can use that.
+    /// Replaces the header. Then appends columns with default settings until the table has at least
+    /// as many columns as the header has cells. After `OutOfMemory` the table is unchanged and the
+    /// new header is dropped. Unlike after `set_header`, a proof of your own can use this fact.
     pub fn try_set_header<T: IntoRow>(&mut self, row: T) -> Result<()>
         ensures ok { OnOk result (self.new ≡ with_header (T.row_of row) self.old) }
         ensures err { OnErr result (self.new ≡ self.old) }
@@ -177,9 +180,9 @@ impl Table {
         Ok(())
     }
 
-    /// Appends a row, and default columns until there are as many as the row has cells. Use it to
-    /// go on with the table after `OutOfMemory`: the table is then unchanged and the row is
-    /// dropped, and the caller's own proof can use that.
+    /// Appends a row. Then appends columns with default settings until the table has at least as
+    /// many columns as the row has cells. After `OutOfMemory` the table is unchanged and the row is
+    /// dropped. Unlike after `add_row`, a proof of your own can use this fact.
     pub fn try_add_row<T: IntoRow>(&mut self, row: T) -> Result<()>
         ensures ok { OnOk result (self.new ≡ with_row (T.row_of row) self.old) }
         ensures err { OnErr result (self.new ≡ self.old) }
@@ -192,8 +195,9 @@ impl Table {
         Ok(())
     }
 
-    /// Appends default columns until there are at least `count`, for rows that are kept outside of
-    /// the table. After `OutOfMemory` the table is unchanged.
+    /// Appends columns with default settings until the table has at least `count` columns. Call
+    /// this function for rows that are stored outside of the table: the functions that add rows
+    /// append columns themselves. After `OutOfMemory` the table is unchanged.
     pub fn grow_columns(&mut self, count: usize) -> Result<()>
         ensures ok { OnOk result (self.new ≡ record self.old {
           columns = columns_grown_to count self.old.columns;
@@ -271,8 +275,8 @@ fn into_reference<'a>(changed: Result<TableReference<'a>>) -> Result<&'a mut Tab
     }
 }
 
-// Appends default columns until there are at least `count`. After `OutOfMemory` the columns are
-// unchanged.
+// Appends columns with default settings until there are at least `count` columns. After
+// `OutOfMemory` the columns are unchanged.
 fn grow_columns(columns: &mut Vec<Column>, count: usize) -> Result<()>
     ensures ok { OnOk result (columns.new.items ≡ columns_grown_to count columns.old.items) }
     ensures err { OnErr result (columns.new.items ≡ columns.old.items) }

@@ -15,7 +15,8 @@ use comfy_parts::Result;
 pub use comfy_parts::content_split::ColumnDisplayInfo;
 use formatting::{Output, PartEnds};
 
-/// The drawn lines of a table: arranged, formatted and framed.
+/// The drawn lines of a table, from the top: frame lines, and rows of aligned texts between
+/// borders. `Table::lines` calls this function. The only error is `OutOfMemory`.
 pub fn build_table(table: &Table) -> Result<Lines>
     ensures drawing { IfOk result (λ lines. IsDrawingOf table.now lines) }
     ensures headline { IfOk result (λ lines. IsTableDrawing table.now lines) }

@@ -25,4 +25,4 @@ input_without_controls options input output look made = any made.records made.ar
 -- nor in the drawing for arguments
 pub drawn_without_controls : (arguments : List Text) (input drawing : Text) → IsRendered arguments input drawing → HasNothingHarmful (visible_text drawing)
 drawn_without_controls arguments input drawing drawn =
-    input_without_controls drawn.invocation.options input drawing (parsed_style_without_controls arguments not_a_terminal drawn.invocation drawn.is_asked) drawn.is_output
+    input_without_controls drawn.invocation.options input drawing (parsed_style_without_controls arguments not_a_terminal drawn.invocation drawn.is_parsed) drawn.is_output

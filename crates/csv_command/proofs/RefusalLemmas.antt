@@ -22,9 +22,9 @@ fault_of options input e other why = why
 
 -- so the refusal is one of the input
 pub refused_input : (arguments : List Text) (input : Text) (invocation : Invocation) → IsParsed arguments not_a_terminal invocation → (e : CsvError) → IsInputRefusal invocation.options input e → (refusal : Refusal) → IsRefusalOfInput invocation e refusal → IsRefusedFor arguments input refusal
-refused_input arguments input invocation is_asked e why (Arguments message) is = absurd is
-refused_input arguments input invocation is_asked e why (Input message) is = record { invocation = invocation; is_asked = is_asked; error = e; is_fault = fault_of invocation.options input e is.0 why; is_line = is.1 }
-refused_input arguments input invocation is_asked e why OutOfMemory is = tt
+refused_input arguments input invocation is_parsed e why (Arguments message) is = absurd is
+refused_input arguments input invocation is_parsed e why (Input message) is = record { invocation = invocation; is_parsed = is_parsed; error = e; is_fault = fault_of invocation.options input e is.0 why; is_line = is.1 }
+refused_input arguments input invocation is_parsed e why OutOfMemory is = tt
 
 -- if clap has a text, the arguments are at fault
 pub refused_arguments : (arguments : List Text) (input : Text) (e : Error) → IsRefusedBy arguments e → (refusal : Refusal) → IsRefusalByKind (kind_of e) refusal → IsRefusedFor arguments input refusal

@@ -21,7 +21,7 @@ use Rattle.csv_command.specs.Run.{IsAfter, IsAfterIn, IsInputRefusal, IsRefusal}
 use Rattle.csv_command.specs.declared.error.CsvError.{CsvError}
 use Rattle.csv_command.specs.declared.error.CsvError.TheVariants as own
 use Rattle.csv_command.specs.declared.arguments.Options.{Options}
-use Rattle.devices.specs.Outcome.{Beginning, Extent, RunFacts, Whole, asked_at, asked_front}
+use Rattle.devices.specs.Outcome.{Beginning, Extent, RunFacts, Whole, tested_at, tested_front}
 use Rattle.devices.specs.Run.{IsAfter as IsAfterRun, IsAfterIn as IsAfterRunIn}
 use Rattle.devices.specs.declared.transfer.Stop.{Stop}
 use Rattle.devices.specs.declared.transfer.Stop.TheVariants.{OutOfMemory, Refused, Unfinished}
@@ -50,18 +50,18 @@ after_stop T options stop facts (inl after) = inl (record { none_is_enough = aft
 after_stop T options stop facts (inr part) =
     inr (record {
       n = part.n;
-      is_asked = part.is_asked;
+      is_tested = part.is_tested;
       unread = part.unread;
-      says = after_stop_in T options Beginning stop (record facts { input = asked_front part.n facts.input; end_was_read = true }) part.says;
+      says = after_stop_in T options Beginning stop (record facts { input = tested_front part.n facts.input; end_was_read = true }) part.says;
     })
 
 -- the drawn beginning has complete lines, and the rest of the input follows them
-pub beginning_parts : (n : ℕ) (input : Text) → (behind : Text) × (input ≡ whole_lines (asked_front n input) ++ behind)
+pub beginning_parts : (n : ℕ) (input : Text) → (after : Text) × (input ≡ whole_lines (tested_front n input) ++ after)
 beginning_parts n input =
-    let lines = whole_front (asked_front n input) in
-    let rest = drop (asked_at n) input in (
+    let lines = whole_front (tested_front n input) in
+    let rest = drop (tested_at n) input in (
       lines.0 ++ rest,
-      sym (take-append-drop (asked_at n) input) ∙ ap (λ t. t ++ rest) lines.1 ∙ append_assoc (whole_lines (asked_front n input)) lines.0 rest,
+      sym (take-append-drop (tested_at n) input) ∙ ap (λ t. t ++ rest) lines.1 ∙ append_assoc (whole_lines (tested_front n input)) lines.0 rest,
     )
 
 module _ (options : Options) (input : Text) where

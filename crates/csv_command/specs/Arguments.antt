@@ -37,8 +37,8 @@ use Rattle.csv_tables.specs.declared.options.RowSeparators.TheVariants.{Styled, 
 abbrev pub has_end : Text → Text → Bool
 has_end end path = str_eq_ignore_ascii_case (drop (length path - length end) path) end
 
--- the delimiter if no argument sets it: for a file `.tsv` or `.tab`, TAB unless its first line
--- names another one, and otherwise the one that is found in the input
+-- the delimiter if no argument sets it. For a file `.tsv` or `.tab` it is TAB, unless the first
+-- line names another delimiter. For any other input it is found in the input.
 abbrev pub delimiter_by : Option Text → Delimiter
 delimiter_by None = AutoDelimiter
 delimiter_by (Some path) =
@@ -84,7 +84,7 @@ abbrev pub terminal_width : Option Text → ℕ
 terminal_width None = 80
 terminal_width (Some columns) = unwrap_or (option_and_then some_columns (number_for 64 columns)) 80
 
--- the width of the table: the one that is set, or else the terminal's; 0 means that there is none
+-- the width of the table: the width that an option sets, or else the terminal's; 0 means no width
 abbrev pub width_for : Option ℕ → OutputContext → Option ℕ
 width_for (Some width) context = some_width width
 width_for None context =
@@ -125,17 +125,17 @@ abbrev pub ids_in : Found → List Text
 ids_in found = map (λ (row : Row). row.id) (rows_of found)
 
 -- true if `other` follows `id` in a list
-abbrev pub is_behind : Text → Text → List Text → Bool
-is_behind id other [] = false
-is_behind id other (it ∷ rest) =
+abbrev pub is_followed_by : Text → Text → List Text → Bool
+is_followed_by id other [] = false
+is_followed_by id other (it ∷ rest) =
     if bytes_eq it id
     then list_any (λ one. bytes_eq one other) rest
-    else is_behind id other rest
+    else is_followed_by id other rest
 
--- true if an option is given, and the other one isn't given after it
+-- true if the first option is given, and the second one isn't given after it
 abbrev pub is_given_last : Found → Text → Text → Bool
 is_given_last found id other =
-    is_given found id && not (is_given found other && is_behind id other (ids_in found))
+    is_given found id && not (is_given found other && is_followed_by id other (ids_in found))
 
 -- the delimiter that the options set
 abbrev pub wanted_delimiter : Found → Option Delimiter
@@ -150,7 +150,7 @@ is_markdown_in found =
     is_given_last found (codes "markdown") (codes "style")
     || option_map_or (is_named (codes "markdown")) (first_value found (codes "style")) false
 
--- the setting for lines between rows: by the options for them, or else by the style
+-- the rule for lines between rows: by the options `--rows` and `--no-rows`, or else by the style
 abbrev pub separators_for : Bool → Bool → Option Text → RowSeparators
 separators_for has_rows has_none style =
     if has_rows
@@ -161,8 +161,8 @@ separators_for has_rows has_none style =
     then Needed
     else Styled
 
--- the setting for drawing a record as a table of its own: always, or as an option says, or else if
--- columns would be too narrow
+-- the rule for drawing a record as a table of its own: always, or as `--expanded` requests, or else
+-- only if columns would be too narrow
 abbrev pub expansion_for : Bool → Option Text → Expansion
 expansion_for true word = Always
 expansion_for false None = Auto
@@ -202,7 +202,7 @@ pub record IsLookParsed (context : OutputContext) (found : Found) (look : Look) 
   pub sequences : look.has_sequences ≡ is_given found (codes "ansi")
   pub markdown : look.is_markdown ≡ is_markdown_in found
 
--- the options for reading the input follow from these values
+-- the options for reading the input follow from the values that were found for options
 pub record IsInputParsed (found : Found) (input : InputOptions) : Type 0 where
   pub encoding : input.encoding ≡ encoding_for (first_value found (codes "encoding"))
   pub skip : input.skip ≡ unwrap_or (number_found 64 found (codes "skip")) 0
@@ -210,14 +210,14 @@ pub record IsInputParsed (found : Found) (input : InputOptions) : Type 0 where
   pub header : input.has_header ≡ not (is_given found (codes "no-header"))
   pub quotes : input.has_quotes ≡ not (is_given found (codes "no-quotes"))
 
--- the selection of records follows from these values
+-- the selection of records follows from the values that were found for options
 pub record IsSelectionParsed (found : Found) (selection : Selection) : Type 0 where
   pub header : selection.has_header ≡ not (is_given found (codes "no-header"))
   pub limit : selection.limit ≡ number_found 64 found (codes "limit")
   pub numbers : selection.is_numbered ≡ is_given found (codes "number")
   pub noun : selection.noun ≡ Record
 
--- the words for columns follow from these values
+-- the words for columns follow from the values that were found for options
 pub record AreColumnsParsed (found : Found) (columns : ColumnWords) : Type 0 where
   pub chosen : map string_bytes columns.chosen.items
       ≡ words_in (first_value found (codes "columns"))
@@ -225,7 +225,7 @@ pub record AreColumnsParsed (found : Found) (columns : ColumnWords) : Type 0 whe
   pub right : map string_bytes columns.right.items ≡ words_in (first_value found (codes "right"))
   pub left : map string_bytes columns.left.items ≡ words_in (first_value found (codes "left"))
 
--- all options follow from these values
+-- all options follow from the values that were found, and from the destination of the output
 pub record AreOptionsParsed (context : OutputContext) (found : Found)
     (options : Options) : Type 0 where
   pub input : IsInputParsed found options.input
@@ -240,7 +240,7 @@ pub record AreFound (arguments : List Text) (found : Found) : Type 0 where
   pub is_csvtable : IsCsvtable app
   pub is_found : rows_of found ≡ matches_of app arguments
 
--- the invocation follows from such values
+-- the invocation follows from the values that clap finds in the arguments
 pub record IsParsed (arguments : List Text) (context : OutputContext)
     (invocation : Invocation) : Type 0 where
   pub found : Found

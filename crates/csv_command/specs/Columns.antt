@@ -30,8 +30,8 @@ abbrev pub column_numbered : ℕ → ℕ → Option ℕ
 column_numbered count number =
     if nat_lt 0 number && nat_le number count then Some (number - 1) else None
 
--- the position of the column with this number, if it exists, or else of the first one with this
--- name
+-- the position of the column with this number, if it exists; otherwise that of the first column
+-- with this name
 abbrev pub column_by : List Text → ℕ → Text → Option ℕ → Option ℕ
 column_by names count word (Some number) =
     option_or (column_numbered count number) (position_named word names)
@@ -48,7 +48,7 @@ end_of names count word =
     then Some count
     else option_map (λ (position : ℕ). position + 1) (column_of names count word)
 
--- the range from one position to another, if both are known and in order
+-- the range from one position up to another, if both positions exist and are in order
 abbrev pub rising : Option ℕ → Option ℕ → Option (ℕ × ℕ)
 rising (Some start) (Some end) = if nat_lt start end then Some (start, end) else None
 rising (Some start) None = None
@@ -61,12 +61,12 @@ range_at names count word at =
     then rising (column_of names count (take at word)) (end_of names count (drop (at + 1) word))
     else None
 
--- the first number's answer that isn't `None`
+-- the first result of `f` that isn't `None`, for these numbers in order
 abbrev pub first_answer : {A : Type 0} → (ℕ → Option A) → List ℕ → Option A
 first_answer f [] = None
 first_answer f (n ∷ ns) = option_or (f n) (first_answer f ns)
 
--- the range at the first such hyphen
+-- the range at the first hyphen that has a range
 abbrev pub range_of : List Text → ℕ → Text → Option (ℕ × ℕ)
 range_of names count word =
     first_answer (range_at names count word) (range_with_len 0 (length word))
@@ -91,7 +91,7 @@ positions_of_word names count word =
     ok_or (option_map positions_between (columns_chosen names count word))
     (missing word (hint_for names count word))
 
--- a list after another one, or the first fault
+-- the second list after the first one, or the first fault
 abbrev pub joined : Result (List ℕ) ColumnFault → Result (List ℕ) ColumnFault
     → Result (List ℕ) ColumnFault
 joined (Ok xs) (Ok ys) = Ok (xs ++ ys)
@@ -112,8 +112,8 @@ whole_name names words =
     then None
     else position_named (join_by string_bytes (codes ",") words) names
 
--- the positions that words choose: that of the name which they are together, or else those of each
--- word
+-- the positions that words choose: that of the column whose name is all words joined by commas, or
+-- else those of each word
 abbrev pub positions_of : {A : Type 0} → List Text → ℕ → List (String A)
     → Result (List ℕ) ColumnFault
 positions_of names count words =
@@ -133,11 +133,11 @@ abbrev pub without : List ℕ → List ℕ → List ℕ
 without positions dropped =
     filter (λ position. not (list_any (λ other. other == position) dropped)) positions
 
--- positions, if there are any
+-- the positions, or the fault `none_left` if there are none
 abbrev pub some_left : List ℕ → Result (List ℕ) ColumnFault
 some_left positions = if length positions == 0 then Err none_left else Ok positions
 
--- the positions that are left, or the first fault
+-- the first positions without the second ones, or the first fault
 abbrev pub less : Result (List ℕ) ColumnFault → Result (List ℕ) ColumnFault
     → Result (List ℕ) ColumnFault
 less (Ok positions) (Ok dropped) = some_left (without positions dropped)

@@ -9,7 +9,7 @@ use Rattle.csv_records.specs.Reading.{AreRecordsFor}
 use Rattle.csv_tables.specs.Columns.{ColumnsValue}
 use Rattle.csv_tables.specs.Drawn.{RendersRecords, count_below}
 use Rattle.csv_tables.specs.declared.options.Layout.{Layout}
-use Rattle.devices.specs.Outcome.{Beginning, Extent, IsAsked, NoneIsEnough, Whole, asked_front}
+use Rattle.devices.specs.Outcome.{Beginning, Extent, IsTested, NoneIsEnough, Whole, tested_front}
 
 -- ---- records
 
@@ -81,5 +81,5 @@ IsNotEnough options read =
 abbrev pub IsDrawnOf : Options → Text → Text → Type 0
 IsDrawnOf options input output =
     (NoneIsEnough (IsNotEnough options) input × RendersInput options input output)
-    ⊎ ((n : ℕ) × IsAsked (IsNotEnough options) n input
-    × RendersBeginning options (whole_lines (asked_front n input)) output)
+    ⊎ ((n : ℕ) × IsTested (IsNotEnough options) n input
+    × RendersBeginning options (whole_lines (tested_front n input)) output)

@@ -25,7 +25,7 @@ use Rattle.csv_command.specs.declared.error.CsvError.TheVariants as err
 use Rattle.csv_command.specs.declared.ending.Outcome.{Outcome}
 use Rattle.csv_command.specs.declared.ending.Ending.{Ending}
 use Rattle.csv_command.specs.declared.ending.Message.{Message}
-use Rattle.csv_command.specs.declared.ending.Message.TheVariants as said
+use Rattle.csv_command.specs.declared.ending.Message.TheVariants as messages
 
 -- a name in a message
 abbrev pub shown_name : Text → Text
@@ -97,7 +97,7 @@ columns_reason (columns.NoColumn word hint) =
 columns_reason columns.NoneLeft = codes "no column is left"
 columns_reason (columns.TwoSides name) =
     (codes "column '" ++ shown_name (string_bytes name))
-    ++ codes "' can't stand at the right and at the left"
+    ++ codes "' can't be aligned both left and right"
 columns_reason columns.OutOfMemory = codes "out of memory"
 
 -- the reason for a missing drawing
@@ -133,9 +133,10 @@ others_counted others =
     else if others == 1 then codes " (and 1 more line)"
     else (codes " (and " ++ decimal others) ++ codes " more lines)"
 
--- True if these records are below other lines, which aren't part of the table. Then there are at
--- least two, and all records that follow have more fields than the first one. A single additional
--- field isn't enough, unless the first record has only one: a text may have a comma in each line.
+-- True if the long records, those with more fields than the header, seem to be below lines that
+-- aren't part of the table. There are then at least two long records, and all records after the
+-- first of them are long too. One more field than the header isn't enough, unless the header has a
+-- single field: a text may have a comma in each line.
 abbrev pub is_below_preamble : LongRecords → Bool
 is_below_preamble longer =
     (longer.lasts && nat_lt 0 longer.others)
@@ -159,7 +160,7 @@ longer_line file longer =
     ++ preamble_hint longer)
     ++ codes "\n"
 
--- the line about an input without records, of which `skip` lines are left out
+-- the line about an input without records, whose first `skip` lines are left out
 abbrev pub blank_line : Option Text → ℕ → Text
 blank_line file skip =
     about true file
@@ -190,50 +191,50 @@ no_memory = codes "csvtable: out of memory\n"
 
 -- the text of a message
 abbrev pub text_of : Message → Text
-text_of said.Nothing = []
-text_of said.OutOfMemory = no_memory
-text_of said.NotUtf8 = argument_not_utf8
-text_of said.WriteFailed = output_unwritten
-text_of said.WouldBlock = output_full
-text_of (said.Text text) = string_bytes text
+text_of messages.Nothing = []
+text_of messages.OutOfMemory = no_memory
+text_of messages.NotUtf8 = argument_not_utf8
+text_of messages.WriteFailed = output_unwritten
+text_of messages.WouldBlock = output_full
+text_of (messages.Text text) = string_bytes text
 
 -- P holds for the text of a message, or there is no memory for the text
 abbrev pub Says : (Text → Type 0) → Message → Type 0
-Says P said.Nothing = ⊥
-Says P said.OutOfMemory = Unit {0}
-Says P said.NotUtf8 = ⊥
-Says P said.WriteFailed = ⊥
-Says P said.WouldBlock = ⊥
-Says P (said.Text text) = P (string_bytes text)
+Says P messages.Nothing = ⊥
+Says P messages.OutOfMemory = Unit {0}
+Says P messages.NotUtf8 = ⊥
+Says P messages.WriteFailed = ⊥
+Says P messages.WouldBlock = ⊥
+Says P (messages.Text text) = P (string_bytes text)
 
 -- the status is n, and there is no message
 pub record IsSilent (n : ℕ) (ending : Ending) : Type 0 where
   pub status : ending.status ≡ n
-  pub silent : ending.said ≡ said.Nothing
+  pub silent : ending.message ≡ messages.Nothing
 
 -- the status is n, and this line, which needs no memory, is written to standard error
 pub record IsLine (n : ℕ) (line : Message) (ending : Ending) : Type 0 where
   pub status : ending.status ≡ n
   pub is_message : ending.is_message ≡ true
-  pub said : ending.said ≡ line
+  pub message : ending.message ≡ line
 
 -- the status is n, and P holds for the message on standard error
 pub record IsMessage (n : ℕ) (P : Text → Type 0) (ending : Ending) : Type 0 where
   pub status : ending.status ≡ n
   pub is_message : ending.is_message ≡ true
-  pub said : Says P ending.said
+  pub message : Says P ending.message
 
 -- the end if the output wasn't written, by the kind of the error; there is no message if the reader
 -- of a pipe has ended
 abbrev pub IsEndOfUnwritten : Option IoErrorKind → Ending → Type 0
 IsEndOfUnwritten (Some io.BrokenPipe) ending = IsSilent 1 ending
-IsEndOfUnwritten (Some io.WouldBlock) ending = IsLine 1 said.WouldBlock ending
-IsEndOfUnwritten _ ending = IsLine 1 said.WriteFailed ending
+IsEndOfUnwritten (Some io.WouldBlock) ending = IsLine 1 messages.WouldBlock ending
+IsEndOfUnwritten _ ending = IsLine 1 messages.WriteFailed ending
 
 -- the end after an error
 abbrev pub IsEndOfError : Outcome → CsvError → Ending → Type 0
 IsEndOfError drawing err.Write ending = IsEndOfUnwritten drawing.output_fault ending
-IsEndOfError drawing err.OutOfMemory ending = IsLine 1 said.OutOfMemory ending
+IsEndOfError drawing err.OutOfMemory ending = IsLine 1 messages.OutOfMemory ending
 IsEndOfError drawing e ending =
     IsMessage 1 (λ text. text ≡ message_for drawing.invocation.now drawing.fault e) ending
 
@@ -269,11 +270,11 @@ IsHarmless text = list_any is_harmful (chars text) ≡ false
 pub record IsHelp (ending : Ending) : Type 0 where
   pub status : ending.status ≡ 0
   pub no_message : ending.is_message ≡ false
-  pub said : Says IsHarmless ending.said
+  pub message : Says IsHarmless ending.message
 
 -- the end if clap has a text to write, by its kind
 abbrev pub IsEndOfRefusal : ErrorKind → Ending → Type 0
-IsEndOfRefusal kind.OutOfMemory ending = IsLine 1 said.OutOfMemory ending
+IsEndOfRefusal kind.OutOfMemory ending = IsLine 1 messages.OutOfMemory ending
 IsEndOfRefusal kind.DisplayHelp ending = IsHelp ending
 IsEndOfRefusal kind.DisplayVersion ending = IsHelp ending
 IsEndOfRefusal _ ending = IsMessage 2 IsHarmless ending
@@ -281,5 +282,5 @@ IsEndOfRefusal _ ending = IsMessage 2 IsHarmless ending
 -- the end if the arguments couldn't be read, by the kind of error: one isn't UTF-8, or there is no
 -- memory
 abbrev pub IsEndWithoutArguments : IoErrorKind → Ending → Type 0
-IsEndWithoutArguments io.InvalidData ending = IsLine 2 said.NotUtf8 ending
-IsEndWithoutArguments _ ending = IsLine 1 said.OutOfMemory ending
+IsEndWithoutArguments io.InvalidData ending = IsLine 2 messages.NotUtf8 ending
+IsEndWithoutArguments _ ending = IsLine 1 messages.OutOfMemory ending

@@ -24,14 +24,14 @@ long_records_for options text records =
     then longer_records options.input text (drawn_records options.selection records)
     else None
 
--- this report for an input that was read whole
+-- the report of `long_records_for`, for an input that was read whole
 pub record AreLongRecordsOfInput (options : Options) (input : Text)
     (longer : Option LongRecords) : Type 0 where
   pub records : List (List Text)
   pub are_records : AreRecordsFor options.input input records
   pub is : longer ≡ long_records_for options are_records.text records
 
--- this report for a beginning that is enough
+-- the report of `long_records_for`, for a beginning that is enough (`AreEnough`)
 pub record AreLongRecordsOfBeginning (options : Options) (beginning : Text)
     (longer : Option LongRecords) : Type 0 where
   pub records : List (List Text)

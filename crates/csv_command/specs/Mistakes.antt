@@ -37,7 +37,7 @@ is_name_of [] rule = false
 is_name_of (b ∷ more) rule =
     if b == 0x2D then is_long more rule.long else length more == 0 && is_short b rule.short
 
--- true if a word calls an option by its name or its letter
+-- true if a word is a hyphen and an option's letter, or two hyphens and its name
 abbrev pub is_called : Text → Rule → Bool
 is_called [] rule = false
 is_called (b ∷ more) rule = b == 0x2D && is_name_of more rule
@@ -63,7 +63,7 @@ abbrev pub is_number_to : ℕ → Text → Bool
 is_number_to greatest word =
     option_map_or (λ n. nat_le n greatest) (number_for 64 (without_leading_plus word)) false
 
--- the message about a word that isn't such a number
+-- the message about a word that isn't a number up to `greatest`
 abbrev pub number_reason : Text → ℕ → Text → Text
 number_reason option greatest word =
     option
@@ -75,7 +75,7 @@ abbrev pub limits_elsewhere : List Text
 limits_elsewhere =
     codes "-n" ∷ codes "--head" ∷ codes "--max-rows" ∷ codes "--nrows" ∷ codes "--rows" ∷ []
 
--- the message about such a number
+-- the message about a number after an option of `limits_elsewhere`
 abbrev pub limit_reason : Text → Text
 limit_reason word =
     codes "for the first records type --limit " ++ word ++ codes "; -n means no header"
@@ -84,7 +84,7 @@ limit_reason word =
 abbrev pub is_encoding : Text → Bool
 is_encoding word = list_any (λ name. is_named name word) encodings
 
--- the message about another word after the option for encodings
+-- the message about a word after the option for encodings that isn't the name of an encoding
 unfoldable pub encoding_reason : Text → Option Text
 encoding_reason word =
     if length word == 0 || is_encoding word
@@ -95,11 +95,16 @@ encoding_reason word =
 
 -- the message about an option of other programs against wrapping
 abbrev pub no_wrap_reason : Text
-no_wrap_reason = codes "-w 0 wraps nothing; -m 1 draws one line for each record"
+no_wrap_reason = codes "-w 0 wraps nothing; -m 1 draws each row on one line"
 
 -- the message about an option of other programs for sorting
 abbrev pub sort_reason : Text
 sort_reason = codes "csvtable doesn't sort; try mlr --csv sort -nr COLUMN FILE | csvtable"
+
+-- the message about an option of other programs that selects records
+abbrev pub filter_reason : Text
+filter_reason =
+    codes "csvtable doesn't filter; try mlr --csv filter '$COLUMN < 0' FILE | csvtable"
 
 -- the message about other options, by the word after them
 abbrev pub reason_without_number : Text → Text → Option Text
@@ -112,6 +117,8 @@ reason_without_number option word =
     then Some no_wrap_reason
     else if bytes_eq option (codes "--sort")
     then Some sort_reason
+    else if bytes_eq option (codes "--filter")
+    then Some filter_reason
     else None
 
 -- the message about an option and the word after it
@@ -130,8 +137,8 @@ abbrev pub with_value : Text → Text → Option (Text × Text)
 with_value option value = if length value == 0 then None else Some (option, value)
 
 -- an option of one letter and its value in one word, without its hyphen, as `w5`
-abbrev pub behind_letter : Text → Option (Text × Text)
-behind_letter rest =
+abbrev pub split_letter : Text → Option (Text × Text)
+split_letter rest =
     option_map_or (with_value (codes "-w")) (strip_byte 0x77 rest)
     (option_map_or (with_value (codes "-m")) (strip_byte 0x6D rest)
     (option_map_or (with_value (codes "-n")) (strip_byte 0x6E rest)
@@ -142,7 +149,7 @@ abbrev pub in_one_word : Text → Option (Text × Text)
 in_one_word word =
     if has_byte 0x3D word
     then Some (before_first (λ b. b == 0x3D) word, after_first (λ b. b == 0x3D) word)
-    else option_and_then behind_letter (strip_byte 0x2D word)
+    else option_and_then split_letter (strip_byte 0x2D word)
 
 -- an option and the next word, or an empty word if there is none
 abbrev pub next_given : Text → List Text → Text × Text
@@ -153,7 +160,8 @@ next_given option (word ∷ more) = (option, word)
 abbrev pub given : Text → List Text → Text × Text
 given option more = unwrap_or (in_one_word option) (next_given option more)
 
--- the message about the first such word; after `--` no word is an option
+-- the message about the first word that isn't the number or the encoding that its option takes;
+-- after `--` no word is an option
 abbrev pub wrong_value : List Text → Option Text
 wrong_value [] = None
 wrong_value (option ∷ more) =

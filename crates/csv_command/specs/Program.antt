@@ -93,7 +93,7 @@ abbrev pub value_names : Option ValueParser → List Text
 value_names (Some (vp.Names names)) = map (λ name. name.now) names.now
 value_names parser = []
 
--- a rule without these names, and the names
+-- a rule whose parser has no names, and the names that the parser allowed
 abbrev pub bare : Rule → Rule × List Text
 bare rule = (record rule { parser = unnamed rule.parser }, value_names rule.parser)
 

@@ -23,27 +23,28 @@ not_a_terminal = record { is_terminal = false; columns = None; no_color = None }
 -- `drawing` is the output for the input that the arguments request
 pub record IsRendered (arguments : List Text) (input drawing : Text) : Type 0 where
   pub invocation : Invocation
-  pub is_asked : IsParsed arguments not_a_terminal invocation
+  pub is_parsed : IsParsed arguments not_a_terminal invocation
   pub is_output : RendersInput invocation.options input drawing
 
 -- `message` is the line about an input that can't be drawn as the arguments request
-pub record IsSaidOfInput (arguments : List Text) (input message : Text) : Type 0 where
+pub record IsMessageOnInput (arguments : List Text) (input message : Text) : Type 0 where
   pub invocation : Invocation
-  pub is_asked : IsParsed arguments not_a_terminal invocation
+  pub is_parsed : IsParsed arguments not_a_terminal invocation
   pub error : CsvError
   pub is_fault : IsInputFault invocation.options input error
   pub is_line : message ≡ message_for invocation None error
 
 -- `message` is the text for arguments that request no drawing
-pub record IsSaidOfArguments (arguments : List Text) (message : Text) : Type 0 where
+pub record IsMessageOnArguments (arguments : List Text) (message : Text) : Type 0 where
   pub in_vain : ((kind : ErrorKind) × AreNotTaken arguments kind) ⊎ AreFoundInVain arguments
   pub harmless : IsHarmless message
 
 -- the reason for a missing drawing
 abbrev pub IsRefusedFor : List Text → Text → Refusal → Type 0
 IsRefusedFor arguments input (Arguments message) =
-    IsSaidOfArguments arguments (string_bytes message)
-IsRefusedFor arguments input (Input message) = IsSaidOfInput arguments input (string_bytes message)
+    IsMessageOnArguments arguments (string_bytes message)
+IsRefusedFor arguments input (Input message) =
+    IsMessageOnInput arguments input (string_bytes message)
 IsRefusedFor arguments input OutOfMemory = Unit {0}
 
 -- the refusal of arguments for which clap has a text, by its kind

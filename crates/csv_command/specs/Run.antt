@@ -27,8 +27,8 @@ abbrev pub is_write_fault : {T : Type 0} → Result T CsvError → Bool
 is_write_fault (Err Write) = true
 is_write_fault _ = false
 
--- An input can't be drawn for one of three reasons: it has no text, the text has no records, or
--- columns can't be chosen from these.
+-- An input can't be drawn for one of three reasons: it isn't text, the text can't be read as
+-- records, or columns can't be chosen from the records.
 abbrev pub IsInputFault : Options → Text → CsvError → Type 0
 IsInputFault options input (Decode e) =
     (e ≢ decode.OutOfMemory) × IsWithoutText options.input input e
@@ -46,7 +46,7 @@ abbrev pub IsUtf8IfWanted : Options → Text → Type 0
 IsUtf8IfWanted options input =
     encoding_of options.input.encoding input ≡ Utf8 → IsUtf8 (below_lines options.input.skip input)
 
--- the facts after a lack of memory; if only a beginning was read, there is a limit, since otherwise
+-- the facts after memory ran out; if only a beginning was read, there is a limit, because otherwise
 -- the whole input is read
 abbrev pub IsFine : Options → Extent → Text → Type 0
 IsFine options Whole input = IsUtf8IfWanted options input
@@ -73,8 +73,8 @@ IsRefusal options extent input e = IsFault options extent input e
 abbrev pub IsInputRefusal : Options → Text → CsvError → Type 0
 IsInputRefusal options input e = IsRefusal options Whole input e
 
--- The facts after a call, by its result. After a lack of memory, it was missing for the first piece
--- of the drawing, or for a later one.
+-- The facts after a call, by its result. If memory ran out, this was before the first piece of the
+-- drawing was written, or later.
 abbrev pub IsAfterIn : {T : Type 0} → Options → Result T CsvError → Extent → RunFacts → Type 0
 IsAfterIn options (Ok _) extent facts = IsAfterOk (RendersExtent options extent) facts
 IsAfterIn options (Err Read) extent facts = OfWhole (IsAfterRead facts) extent

@@ -1,11 +1,11 @@
-//! The options that the program's arguments give.
+//! Options for reading and drawing, from the program's arguments.
 
 ghost use Rattle.std.specs.Prelude.{◌≡◌, ◌≢◌, ◌==◌, IfOk, IfErr, Some, codes, map, not, option_map, string_bytes};
 ghost use Rattle.std.specs.List.{slice_split};
 ghost use Rattle.clap.specs.Words.{app_of, first_value, found_of, kind_of};
 ghost use Rattle.clap.specs.declared.error.kind.ErrorKind.TheVariants.{InvalidValue, OutOfMemory};
 ghost use Rattle.csv_command.specs.Program.{IsCsvtable};
-ghost use Rattle.csv_command.specs.Arguments.{AreColumnsParsed, IsInputParsed, IsParsed, IsRefusedBy, IsLookParsed, AreOptionsParsed, IsSelectionParsed, delimiter_by, delimiter_for, encoding_for, expansion_for, file_for, has_end, ids_in, is_behind, is_bold_for, is_bold_there, is_given, is_given_last, is_markdown_in, is_utf16, separators_for, some_columns, some_width, terminal_width, wanted_delimiter, wants_color, width_for, words_in};
+ghost use Rattle.csv_command.specs.Arguments.{AreColumnsParsed, IsInputParsed, IsParsed, IsRefusedBy, IsLookParsed, AreOptionsParsed, IsSelectionParsed, delimiter_by, delimiter_for, encoding_for, expansion_for, file_for, has_end, ids_in, is_followed_by, is_bold_for, is_bold_there, is_given, is_given_last, is_markdown_in, is_utf16, separators_for, some_columns, some_width, terminal_width, wanted_delimiter, wants_color, width_for, words_in};
 
 use crate::columns::ColumnWords;
 use crate::mistakes::{reason_of_delimiter, reason_of_value};
@@ -29,14 +29,15 @@ const ONE_FILE: &str = "csvtable draws one file; try mlr --csv cat FILE FILE | c
 pub struct Options {
     /// The options for reading the input.
     pub input: InputOptions,
-    /// True if an input is read to its end although there is a limit, so that its records can be
-    /// counted.
+    /// True if an input is read to its end even if `selection` has a limit, so that all its records
+    /// can be counted.
     pub counts_all: bool,
-    /// The records that are drawn.
+    /// The header of the records, the greatest number of records that are drawn, and the way in
+    /// which records are counted.
     pub selection: Selection,
-    /// The columns that are drawn, as words.
+    /// The words that choose the columns that are drawn, and the words that choose their alignment.
     pub columns: ColumnWords,
-    /// The look of the table.
+    /// The look of the table: its frame, its width, and the way in which records are drawn.
     pub look: Look,
 }
 
@@ -55,9 +56,9 @@ impl Drop for Options {
 /// The options and the file that the arguments give.
 #[derive(Debug)]
 pub struct Invocation {
-    /// The options for the drawing.
+    /// The options for reading the input and for drawing it.
     pub options: Options,
-    /// The file to read, or `None` for standard input.
+    /// The path of the file to read, or `None` for standard input.
     pub file: Option<String>,
 }
 
@@ -70,25 +71,30 @@ impl Drop for Invocation {
     }
 }
 
-/// Facts about the destination of the output.
+/// Facts about the destination of the output, which decide the width and the bold header if no
+/// option sets them.
 #[derive(Clone, Copy, Debug)]
 pub struct OutputContext<'a> {
     /// True if standard output is a terminal.
     pub is_terminal: bool,
-    /// The variable `COLUMNS` of the environment, if it is UTF-8.
+    /// The environment variable `COLUMNS`, which has the width of the terminal in terminal columns.
+    /// `None` if the variable isn't set or isn't UTF-8.
     pub columns: Option<&'a str>,
-    /// The variable `NO_COLOR` of the environment, if it is UTF-8.
+    /// The environment variable `NO_COLOR`. If the variable is set and not empty, the header isn't
+    /// in bold unless an option requests a bold header. `None` if the variable isn't set or isn't
+    /// UTF-8.
     pub no_color: Option<&'a str>,
 }
 
-/// Reads the arguments; the first one is the program's name. Of two options that contradict each
-/// other, the last one counts. Options follow only from the values that clap finds in the
-/// arguments, and from the context.
+/// Returns the options and the file that the arguments give. The first argument is the program's
+/// name. Of two options that contradict each other, the last option counts. The result depends only
+/// on the values that clap finds in the arguments, and on `context`.
 ///
 /// # Errors
 ///
-/// Help, the version and unknown arguments are clap's errors, and a word that can't be a delimiter
-/// is one too. Otherwise memory ran out.
+/// An error of clap is returned if help or the version is requested, if an argument isn't known, or
+/// if a value is wrong. A word that can't be a delimiter is such a value. The error has the text
+/// that the program writes. The only other error is that memory ran out.
 pub fn parse<'a>(
     alloc: Global,
     arguments: &'a [&'a str],
@@ -124,7 +130,7 @@ fn parse_by<'a>(
     }
 }
 
-// The refusal of a word that can't be a delimiter.
+// The error for a word that can't be a delimiter.
 fn without_delimiter<'a>(alloc: Global, command: &mut Command<'a>, word: Option<&str>) -> Error
     ensures { (kind_of result ≢ OutOfMemory) → kind_of result ≡ InvalidValue }
 {
@@ -134,7 +140,7 @@ fn without_delimiter<'a>(alloc: Global, command: &mut Command<'a>, word: Option<
     }
 }
 
-// A refusal by clap. Its message is replaced by our own if a number or an encoding is wrong, or an
+// Returns clap's error, with a message of our own if a number or an encoding is wrong, or if an
 // argument isn't known.
 fn with_clearer_message<'a>(
     alloc: Global,
@@ -158,12 +164,12 @@ fn with_clearer_message<'a>(
     }
 }
 
-// A refusal by clap without clap's tip on values. No clause describes clap's words.
+// Returns clap's error without clap's tip on values. No clause describes clap's words.
 fn without_useless_tip<'a>(alloc: Global, command: &mut Command<'a>, error: Error) -> Error
     ensures { (kind_of result ≢ OutOfMemory) → kind_of result ≡ kind_of error }
 {
     match format!(in alloc; "{error}") {
-        Ok(said) => match clearer_reason(said.as_str()) {
+        Ok(message) => match clearer_reason(message.as_str()) {
             Some(reason) => refusal(command, error.kind(), reason),
             None => error,
         },
@@ -173,8 +179,8 @@ fn without_useless_tip<'a>(alloc: Global, command: &mut Command<'a>, error: Erro
 
 // A clearer reason than clap's text. For a second file it is `ONE_FILE`. If clap gives a tip to
 // pass an option as a value, it is the text before this tip.
-fn clearer_reason(said: &str) -> Option<&str> {
-    let rest = said.strip_prefix("error: ")?;
+fn clearer_reason(message: &str) -> Option<&str> {
+    let rest = message.strip_prefix("error: ")?;
     if rest.starts_with("unexpected argument '") && !rest.starts_with("unexpected argument '-") {
         return Some(ONE_FILE);
     }
@@ -182,7 +188,7 @@ fn clearer_reason(said: &str) -> Option<&str> {
     Some(reason.trim_ascii_end())
 }
 
-// The options and the file of the matches, for a delimiter that is known.
+// The options and the file for the values that clap found, and for a known delimiter.
 fn invocation_of<'a>(
     alloc: Global,
     matches: &ArgMatches<'a>,
@@ -201,15 +207,15 @@ fn invocation_of<'a>(
     })
 }
 
-// A refusal of the arguments for this reason.
+// An error of this kind for the arguments, with this reason.
 fn refusal<'a>(command: &mut Command<'a>, kind: ErrorKind, reason: &str) -> Error
     ensures { (kind_of result ≢ OutOfMemory) → kind_of result ≡ kind }
 {
-    let said = command.error(kind, reason);
-    said.unwrap_or_else(Error::from)
+    let message = command.error(kind, reason);
+    message.unwrap_or_else(Error::from)
 }
 
-// True if a table for Markdown is requested.
+// Returns true if a table for Markdown is requested.
 fn is_markdown<'a>(matches: &ArgMatches<'a>) -> bool
     ensures { result ≡ is_markdown_in (found_of matches.now) }
 {
@@ -219,24 +225,24 @@ fn is_markdown<'a>(matches: &ArgMatches<'a>) -> bool
             .is_some_and(|style| is_named("markdown", style))
 }
 
-// True if a flag is set, or an option has a value.
+// Returns true if a flag is set, or an option has a value.
 fn is_given<'a>(matches: &ArgMatches<'a>, id: &str) -> bool
     ensures { result ≡ is_given (found_of matches.now) id.now }
 {
     matches.get_str(id).is_some_and(|value| value != "false")
 }
 
-// True if an option is given, and the other one isn't given after it.
+// Returns true if the option `id` is given, and the option `other` isn't given after it.
 fn is_given_last<'a>(matches: &ArgMatches<'a>, id: &str, other: &str) -> bool
     ensures { result ≡ is_given_last (found_of matches.now) id.now other.now }
 {
-    is_given(matches, id) && !(is_given(matches, other) && is_behind(matches, id, other))
+    is_given(matches, id) && !(is_given(matches, other) && is_followed_by(matches, id, other))
 }
 
-// True if the other option was used after this one. Clap lists options in the order of their last
-// uses.
-fn is_behind<'a>(matches: &ArgMatches<'a>, id: &str, other: &str) -> bool
-    ensures { result ≡ is_behind id.now other.now (ids_in (found_of matches.now)) }
+// Returns true if the option `other` was used after the option `id`. Clap lists options in the
+// order of their last uses.
+fn is_followed_by<'a>(matches: &ArgMatches<'a>, id: &str, other: &str) -> bool
+    ensures { result ≡ is_followed_by id.now other.now (ids_in (found_of matches.now)) }
 {
     let mut was_found = false;
     for it in matches.ids() {
@@ -270,8 +276,8 @@ fn wanted_delimiter<'a>(matches: &ArgMatches<'a>) -> Option<Delimiter>
     }
 }
 
-// The delimiter for an argument, and for a file with this name. `None` if the argument can't be
-// one.
+// The delimiter for the value of `--delimiter`, and for a file with this name. `None` if the value
+// can't be a delimiter.
 fn delimiter_of(word: Option<&str>, file: Option<&str>) -> Option<Delimiter>
     ensures { result ≡ delimiter_for (option_map (λ w. w.now) word.entry)
         (option_map (λ f. f.now) file.entry) }
@@ -287,7 +293,7 @@ fn delimiter_of(word: Option<&str>, file: Option<&str>) -> Option<Delimiter>
     }
 }
 
-// The delimiter for a file with this name, if no argument sets it.
+// The delimiter for a file with this name, if no argument sets a delimiter.
 fn delimiter_by(file: Option<&str>) -> Delimiter
     ensures { result ≡ delimiter_by (option_map (λ f. f.now) file.entry) }
 {
@@ -297,7 +303,7 @@ fn delimiter_by(file: Option<&str>) -> Delimiter
     }
 }
 
-// True if a path ends with `end`, in letters of either case.
+// Returns true if a path ends with `end`, in letters of either case.
 fn has_end(path: &str, end: &str) -> bool
     ensures { result ≡ has_end end.now path.now }
 {
@@ -305,7 +311,8 @@ fn has_end(path: &str, end: &str) -> bool
     bytes[bytes.len().saturating_sub(end.len())..].eq_ignore_ascii_case(end.as_bytes())
 }
 
-// The encoding with this name, which is one of the names that `command` knows.
+// The encoding with this name, which must be one of the names that `command` allows. `None` without
+// a name.
 fn encoding_of(name: Option<&str>) -> Option<Encoding>
     ensures { result ≡ encoding_for (option_map (λ n. n.now) name.entry) }
 {
@@ -323,7 +330,7 @@ fn is_utf16(name: &str) -> bool
     is_named("utf-16", name) || is_named("utf16", name) || is_named("utf-16le", name)
 }
 
-// The options of the matches.
+// The options for the values that clap found.
 fn options_of<'a>(
     alloc: Global,
     matches: &ArgMatches<'a>,
@@ -356,7 +363,7 @@ fn input_of<'a>(matches: &ArgMatches<'a>, delimiter: Delimiter) -> InputOptions
     }
 }
 
-// True if the first record is the header.
+// Returns true if the first record is the header.
 fn has_header<'a>(matches: &ArgMatches<'a>) -> bool
     ensures { result ≡ not (is_given (found_of matches.now) (codes "no-header")) }
 {
@@ -410,7 +417,8 @@ fn look_of<'a>(matches: &ArgMatches<'a>, context: OutputContext<'_>) -> Look
     }
 }
 
-// The setting for lines between rows.
+// The rule for lines between rows: `has_rows` and `has_none` are true if `--rows` or `--no-rows` is
+// in effect.
 fn separators_of(has_rows: bool, has_none: bool, style: Option<&str>) -> RowSeparators
     ensures { result ≡ separators_for has_rows has_none
         (option_map (λ name. name.now) style.entry) }
@@ -426,7 +434,8 @@ fn separators_of(has_rows: bool, has_none: bool, style: Option<&str>) -> RowSepa
     }
 }
 
-// The setting for drawing a record as a table of its own.
+// The rule for drawing each record as a table of its own. `word` is the value of `--expanded`, and
+// `is_always` is true if `-x` is in effect.
 fn expansion_of(is_always: bool, word: Option<&str>) -> Expansion
     ensures { result ≡ expansion_for is_always (option_map (λ w. w.now) word.entry) }
 {
@@ -465,7 +474,7 @@ fn terminal_width(columns: Option<&str>) -> u16
     columns.unwrap_or(TERMINAL_WIDTH)
 }
 
-// A number of terminal columns, if it isn't 0 and fits a width.
+// A number of terminal columns, or `None` for 0 and for a number above 65535.
 fn some_columns(columns: usize) -> Option<u16>
     ensures { result ≡ some_columns columns }
 {
@@ -482,7 +491,8 @@ fn is_bold(word: Option<&str>, context: OutputContext<'_>) -> bool
     }
 }
 
-// True if the header is in bold when no option says so: in a terminal, if colours are wanted.
+// Returns true if the header is in bold when no option says so: in a terminal, if colours are
+// wanted.
 fn is_bold_there(context: OutputContext<'_>) -> bool
     ensures { result ≡ is_bold_there context.entry }
 {
@@ -495,7 +505,7 @@ fn wants_color(no_color: Option<&str>) -> bool
     no_color.is_none_or(|text| text.is_empty())
 }
 
-// The words of a list, or no words without a list.
+// The words of a list, which are separated by commas. There are no words without a list.
 fn words_of(alloc: Global, list: Option<&str>) -> Result<Vec<String>, AllocError>
     ensures { IfOk result (λ words. map string_bytes words.items
         ≡ words_in (option_map (λ l. l.now) list.entry)) }

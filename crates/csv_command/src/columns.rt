@@ -10,21 +10,25 @@ use csv_records::{Record, parse_digits};
 use csv_tables::{Columns, name_at};
 use std::alloc::{AllocError, Global};
 
-/// Columns, given by words. Several words choose the first column whose name they are when they are
-/// joined by commas. Otherwise each word is tried as the number of a column, counted from 1, then
-/// as a name, and then as a range with a hyphen. Each end of a range is such a number or a name;
-/// nothing after the hyphen means the last column. Of several hyphens, the first one counts that
-/// has existing columns on both sides, in order.
+/// Lists of words that choose columns: the values of the options `-c`, `--drop`, `-r` and `--left`.
+///
+/// If a list has several words, and a column's name is all of these words joined by commas, the
+/// list chooses the first such column. Otherwise each word is tried as the number of a column,
+/// counted from 1. Then it is tried as a name, and last as a range with a hyphen. Each end of a
+/// range is a number or a name. If nothing follows the hyphen, the range ends with the last column.
+/// In a word with several hyphens, the first hyphen counts that has existing columns on both sides,
+/// and whose left column isn't after the right column.
 #[derive(Debug)]
 pub struct ColumnWords {
-    /// The columns in the order in which they are drawn. If there are none, all are drawn up to the
-    /// last that has a name or a field that isn't empty.
+    /// The columns to draw, in this order. If the list is empty, all columns are drawn up to the
+    /// last one that has a name or a field that isn't empty.
     pub chosen: Vec<String>,
-    /// The columns that aren't drawn.
+    /// The columns that aren't drawn, even if `chosen` has them. An empty list drops no column.
     pub dropped: Vec<String>,
-    /// The columns that are right-aligned.
+    /// The columns that are right-aligned, whatever their fields are.
     pub right: Vec<String>,
-    /// The columns that are left-aligned. A column in both lists is refused.
+    /// The columns that are left-aligned, whatever their fields are. A column in both `right` and
+    /// `left` is an error.
     pub left: Vec<String>,
 }
 
@@ -39,23 +43,25 @@ impl Drop for ColumnWords {
     }
 }
 
-/// The numbers of columns of a header and rows.
+/// Two counts of the columns of a header and rows.
 #[derive(Clone, Copy)]
 pub(crate) struct Counts {
+    /// The number of all columns, also of empty ones at the end.
     pub(crate) all: usize,
-    /// The columns up to the last that has a name or a field that isn't empty. They are drawn if
-    /// none is chosen.
+    /// The number of columns up to the last one that has a name or a field that isn't empty. These
+    /// columns are drawn if no column is chosen.
     pub(crate) filled: usize,
 }
 
-/// The positions of the columns that words choose, of `counts.all` columns with these names.
+/// Returns the positions of the drawn, the right-aligned and the left-aligned columns that words
+/// choose. There are `counts.all` columns, and `names` has their names.
 ///
 /// # Errors
 ///
-/// `NoColumn` has the first word that chooses no existing column. The chosen columns are tried
-/// first, then the dropped ones, the right-aligned and the left-aligned ones. `NoneLeft` comes
-/// before the errors of the last two lists. `TwoSides` has the first right-aligned column that is
-/// left-aligned too.
+/// `NoColumn` has the first word that chooses no existing column. The lists are tried in the order
+/// `chosen`, `dropped`, `right`, `left`. `NoneLeft` is returned before the errors of the last two
+/// lists. `TwoSides` has the first right-aligned column that is left-aligned too. `OutOfMemory` is
+/// the only other error.
 pub(crate) fn columns_of(
     alloc: Global,
     names: &Record<'_>,
@@ -107,7 +113,7 @@ fn kept_columns(
     Ok(kept)
 }
 
-// The positions of one list that aren't in another.
+// The positions in `positions` that aren't in `dropped`.
 fn without(alloc: Global, positions: &[usize], dropped: &[usize]) -> Result<Vec<usize>, AllocError>
     ensures { IfOk result (λ kept. kept.items ≡ without positions.now dropped.now) }
 {
@@ -137,8 +143,8 @@ fn chosen_columns(
     }
 }
 
-// The positions that words choose: that of the name which they are together, or else those of each
-// word.
+// The positions that words choose. If the words joined by commas are the name of a column, it is
+// the position of that column. Otherwise each word chooses positions.
 fn positions_of(
     alloc: Global,
     words: &[String],
@@ -214,8 +220,8 @@ fn positions_of_word(
     }
 }
 
-// The columns that a word chooses: a single one, or else a range. They are given as the position of
-// the first one, and the position after the last one.
+// The columns that a word chooses: a single column, or else a range. The result is the position of
+// the first column, and the position after the last one.
 fn columns_chosen(names: &Record<'_>, count: usize, word: &str) -> Option<(usize, usize)>
     ensures value { result ≡ columns_chosen names.now count word.now }
     ensures ordered { IfSome result (λ ends. ends.0 ≤ ends.1) }
@@ -226,8 +232,8 @@ fn columns_chosen(names: &Record<'_>, count: usize, word: &str) -> Option<(usize
     }
 }
 
-// The position of the column with this number, if it exists, or else of the first one with this
-// name.
+// The position of the column with this number, if it exists. Otherwise it is that of the first
+// column with this name.
 fn column_of(names: &Record<'_>, count: usize, word: &str) -> Option<usize>
     ensures value { result ≡ column_of names.now count word.now }
     ensures below { IfSome result (λ position. position < 2 ^ 64 - 1) }
@@ -248,7 +254,8 @@ fn column_numbered(count: usize, number: usize) -> Option<usize>
     number.checked_sub(1).filter(|position| *position < count)
 }
 
-// The range at the first hyphen that has existing columns on both sides, in order.
+// The range at the first hyphen that has existing columns on both sides, the first of them not
+// after the second.
 fn range_of(names: &Record<'_>, count: usize, word: &str) -> Option<(usize, usize)>
     ensures value { result ≡ range_of names.now count word.now }
     ensures ordered { IfSome result (λ ends. ends.0 ≤ ends.1) }
@@ -261,7 +268,8 @@ fn range_of(names: &Record<'_>, count: usize, word: &str) -> Option<(usize, usiz
     None
 }
 
-// The range at a hyphen at this place.
+// The range at a hyphen at byte `at` of a word. `None` if there is no hyphen, or the columns beside
+// it don't exist or aren't in order.
 fn range_at(names: &Record<'_>, count: usize, word: &str, at: usize) -> Option<(usize, usize)>
     requires { at < length word.now }
     ensures value { result ≡ range_at names.now count word.now at }

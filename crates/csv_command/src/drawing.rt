@@ -1,4 +1,4 @@
-//! The drawing for arguments and an input, all of them values.
+//! Draws an input in memory as arguments request, and returns the drawing as a text.
 
 ghost use Rattle.std.specs.Prelude.{◌≡◌, IfErr, IfOk, map, string_bytes};
 ghost use Rattle.clap.specs.Words.{kind_of};
@@ -13,19 +13,19 @@ use crate::transfer::output_of_input;
 use clap::error::{Error, ErrorKind};
 use std::alloc::{AllocError, Global};
 
-// The destination of an output that a caller gets as a value: no terminal, and an empty
-// environment.
+// The destination of an output that is returned to a caller: no terminal, and an environment
+// without `COLUMNS` and `NO_COLOR`.
 const NOT_A_TERMINAL: OutputContext<'static> = OutputContext {
     is_terminal: false,
     columns: None,
     no_color: None,
 };
 
-/// The reason for a missing drawing.
+/// The reason why `render_csv` returns no drawing.
 #[derive(Debug, Drop)]
 pub enum Refusal {
-    /// The arguments request no drawing. The text is the one that `csvtable` writes instead; help
-    /// and the version are such texts.
+    /// The arguments request no drawing. The text is the message that `csvtable` writes instead of
+    /// a drawing. Help and the version are such messages.
     Arguments(String),
     /// The input can't be drawn as the arguments request. The text is the line that `csvtable`
     /// writes on standard error.
@@ -42,9 +42,9 @@ impl From<AllocError> for Refusal {
     }
 }
 
-/// Returns the output of `csvtable` for these arguments and this input. The first argument is the
-/// program's name. The output goes to no terminal, and the environment has neither `COLUMNS` nor
-/// `NO_COLOR`.
+/// Returns the output of `csvtable` for these arguments, the option `--count`, and this input. The
+/// first argument is the program's name. The output goes to no terminal, and the environment has
+/// neither `COLUMNS` nor `NO_COLOR`.
 ///
 /// No file is opened. An argument for a file names the input in messages, and its extension may set
 /// the delimiter.

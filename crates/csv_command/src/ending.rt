@@ -1,4 +1,5 @@
-//! The end of the program: its status and its message. `process` carries it out.
+//! The end of the program: its status and its message. The module `process` writes the message and
+//! returns the status.
 
 ghost use Rattle.std.specs.Prelude.{◌≡◌, ◌++◌, IfErr, IfOk, OnOk, option_map, string_bytes, true};
 ghost use Rattle.clap.specs.Words.{kind_of};
@@ -39,36 +40,39 @@ const HTML: &str = "an HTML page, perhaps one that asks for a login; -e utf-8 re
 // The reason for a missing drawing if memory ran out.
 const OUT_OF_MEMORY: &str = "out of memory";
 
-/// The line for an argument that isn't UTF-8.
+/// The line that `csvtable` writes on standard error if an argument isn't UTF-8.
 pub const ARGUMENT_NOT_UTF8: &str = "csvtable: an argument isn't UTF-8\n";
 
-/// The end of the program.
+/// The status and the last message of the program.
 #[derive(Drop)]
 pub(crate) struct Ending {
-    /// The status.
+    /// The exit status: 0 for success, 1 after an error, 2 if the arguments are refused.
     pub status: u8,
     /// True if the message goes to standard error, and false if it goes to standard output.
     pub is_message: bool,
-    /// The message.
-    pub said: Message,
+    /// The text that the program writes last. With `Message::Nothing` it writes no text.
+    pub message: Message,
 }
 
-/// A message of the program at its end.
+/// The message that the program writes at its end.
 #[derive(Drop)]
 pub(crate) enum Message {
+    /// There is no message.
     Nothing,
+    /// Memory ran out.
     OutOfMemory,
     /// An argument isn't UTF-8.
     NotUtf8,
     /// The output can't be written.
     WriteFailed,
-    /// The output takes no more for now.
+    /// The output is nonblocking, and takes no more bytes for now.
     WouldBlock,
+    /// The message is this text.
     Text(String),
 }
 
 impl Message {
-    /// The text of the message.
+    /// The text of the message; empty for `Nothing`.
     pub(crate) fn text(&self) -> &str
         ensures { result.now ≡ text_of self.now }
     {
@@ -84,23 +88,23 @@ impl Message {
     }
 }
 
-/// The result of a run that draws.
+/// The result of a run of the program that was to draw an input.
 #[derive(Drop)]
 pub(crate) struct Outcome<'a> {
-    /// The options and the file of the run.
+    /// The options and the file that the arguments of the run give.
     pub invocation: &'a Invocation,
-    /// The records with more fields than the header, if the drawing was written and has some, or an
-    /// error.
+    /// A report of the drawn records that have more fields than the header, if the drawing was
+    /// written, or an error. `Ok(None)` if no drawn record has more fields.
     pub result: Result<Option<LongRecords>, CsvError>,
-    /// The error on opening or reading the input, if there was one.
+    /// The error on opening or reading the input. `None` if there was no such error.
     pub fault: Option<io::ErrorKind>,
-    /// The error on writing the output, if there was one.
+    /// The error on writing the output. `None` if there was no such error.
     pub output_fault: Option<io::ErrorKind>,
-    /// True if nothing was written to standard output, and this is a terminal.
+    /// True if nothing was written to standard output, and standard output is a terminal.
     pub is_blank: bool,
 }
 
-/// The end of the program after a drawing.
+/// The end of the program after a drawing or an error.
 pub(crate) fn ending_of_outcome(alloc: Global, drawing: &Outcome<'_>) -> Ending
     ensures { IsEndOfOutcome drawing.now result }
 {
@@ -125,8 +129,8 @@ fn ending_of_blank(alloc: Global, invocation: &Invocation) -> Ending
     ensures { IsEndOfBlank invocation.now result }
 {
     let text = blank_line(alloc, &invocation.file, invocation.options.input.skip);
-    let said = message_of_text(text);
-    ending_with(0, said)
+    let message = message_of_text(text);
+    ending_with(0, message)
 }
 
 // The end if the output wasn't written. There is no message if the reader of a pipe has ended.
@@ -150,14 +154,14 @@ pub(crate) fn ending_of_refusal(alloc: Global, error: &Error) -> Ending
         ErrorKind::DisplayHelp | ErrorKind::DisplayVersion => Ending {
             status: 0,
             is_message: false,
-            said: message_of_text(text_of_clap(alloc, error)),
+            message: message_of_text(text_of_clap(alloc, error)),
         },
         _ => ending_with(MISUSED, message_of_text(text_of_clap(alloc, error))),
     }
 }
 
-/// The end of the program if the arguments couldn't be read: one isn't UTF-8, or there is no memory
-/// for them.
+/// The end of the program if the arguments couldn't be read: an argument isn't UTF-8, or there is
+/// no memory for the arguments.
 pub(crate) fn ending_without_arguments(kind: io::ErrorKind) -> Ending
     ensures { IsEndWithoutArguments kind result }
 {
@@ -173,21 +177,21 @@ fn silent(status: u8) -> Ending
     Ending {
         status,
         is_message: true,
-        said: Message::Nothing,
+        message: Message::Nothing,
     }
 }
 
-fn ending_with(status: u8, said: Message) -> Ending
-    ensures { result ≡ record { status = status; is_message = true; said = said } }
+fn ending_with(status: u8, message: Message) -> Ending
+    ensures { result ≡ record { status = status; is_message = true; message = message } }
 {
     Ending {
         status,
         is_message: true,
-        said,
+        message,
     }
 }
 
-// The message for a text, or for a lack of memory.
+// The message with this text, or `OutOfMemory` if there was no memory for the text.
 fn message_of_text(text: Result<String, AllocError>) -> Message
     ensures text { IfOk text (λ t. result ≡ Text t) }
     ensures no_memory { IfErr text (λ _. result ≡ OutOfMemory) }
@@ -240,7 +244,7 @@ fn longer_line(
     Ok(text)
 }
 
-// Appends a hint if other lines are above the table.
+// Appends a hint on `--skip` if other lines are above the table.
 fn push_preamble_hint(
     alloc: Global,
     text: &mut String,
@@ -263,9 +267,10 @@ fn skip_hint(alloc: Global, line: u64) -> Result<String, AllocError>
     format!(in alloc; "; try --skip {}", line.saturating_sub(1))
 }
 
-// True if these records are below other lines, which aren't part of the table. Then there are at
-// least two, and all records that follow have more fields than the first one. A single additional
-// field isn't enough, unless the first record has only one: a text may have a comma in each line.
+// Returns true if the long records, those with more fields than the header, seem to be below lines
+// that aren't part of the table. There are then at least two long records, and all records after
+// the first of them are long too. One more field than the header isn't enough, unless the header
+// has a single field: a text may have a comma in each line.
 fn is_below_preamble(longer: LongRecords) -> bool
     ensures { result ≡ is_below_preamble longer }
 {
@@ -287,7 +292,8 @@ fn push_others(alloc: Global, text: &mut String, others: usize) -> Result<(), Al
     text.push_str(counted.as_str())
 }
 
-/// The line about an error. `fault` is the error on opening or reading the input, if there was one.
+/// The line about an error, with a line feed. `fault` is the error on opening or reading the input,
+/// or `None` if there was no such error.
 pub(crate) fn message_of(
     alloc: Global,
     invocation: &Invocation,
@@ -303,7 +309,7 @@ pub(crate) fn message_of(
     Ok(text)
 }
 
-// True if an error is one of the input. Its message then names the input.
+// Returns true if an error is one of the input. Its message then names the input.
 fn is_of_input(error: &CsvError) -> bool
     ensures { result ≡ is_of_input error.now }
 {
@@ -325,8 +331,8 @@ fn about(alloc: Global, is_of_input: bool, file: &Option<String>) -> Result<Stri
     }
 }
 
-/// The message before the input is read. If no file is named and standard input is a terminal, it
-/// says that the program waits for input.
+/// The message before the input is read: that the program waits for input, if no file is named and
+/// standard input is a terminal. Otherwise the message is empty.
 pub(crate) fn waiting_notice(file: &Option<String>, is_terminal: bool) -> &'static str
     ensures { result.now ≡ waiting_notice (option_map string_bytes file.now) is_terminal }
 {
@@ -426,7 +432,7 @@ fn columns_reason(alloc: Global, error: &ColumnsError) -> Result<String, AllocEr
         ColumnsError::NoneLeft => String::from_str(alloc, "no column is left"),
         ColumnsError::TwoSides(name) => {
             let name = shown_text(alloc, name.as_str(), false)?;
-            format!(in alloc; "column '{name}' can't stand at the right and at the left")
+            format!(in alloc; "column '{name}' can't be aligned both left and right")
         }
         ColumnsError::OutOfMemory => String::from_str(alloc, OUT_OF_MEMORY),
     }
@@ -455,8 +461,8 @@ fn encoding_hint(encoding: Option<Encoding>, may_be_cp1252: bool) -> &'static st
     }
 }
 
-/// The message of clap, without control characters other than line feeds: it quotes arguments as
-/// they were typed.
+/// Clap's message, in which all control characters except line feeds are replaced. Clap quotes
+/// arguments as they were typed, so its message may have such characters.
 pub(crate) fn text_of_clap(alloc: Global, error: &Error) -> Result<String, AllocError>
     ensures { IfOk result (λ text. IsHarmless (string_bytes text)) }
 {

@@ -1,4 +1,4 @@
-//! Errors of drawings.
+//! Reasons why an input isn't drawn.
 
 ghost use Rattle.std.specs.Prelude.{◌≡◌};
 ghost use Rattle.csv_command.specs.Errors.{of_columns, of_decoding, of_records, of_stop};
@@ -11,42 +11,44 @@ use devices::Stop;
 use std::alloc::AllocError;
 use thiserror::Error;
 
-/// An error in the choice of columns.
+/// The reason why columns can't be chosen or aligned as the options request.
 #[derive(Debug, Drop, Error)]
 pub enum ColumnsError {
-    /// This word chooses no existing column. The second text is a hint: a name that differs from
-    /// the word only in case, or else a list of the columns.
+    /// A word chooses no existing column. The first text is the word. The second text is a hint:
+    /// the first similar name, or else a list of the columns. A similar name differs from the word
+    /// only in the case of ASCII letters, and in white space at its ends.
     #[error("no column '{0}'; {1}")]
     NoColumn(String, String),
-    /// All chosen columns are dropped, or no record has a field.
+    /// No column is left to draw: all chosen columns are dropped, or no record has a field.
     #[error("no column is left")]
     NoneLeft,
-    /// The column with this name, or with this number if there is no header, is both right-aligned
-    /// and left-aligned.
-    #[error("column '{0}' can't stand at the right and at the left")]
+    /// A column is chosen both as right-aligned and as left-aligned. The text is the column's name,
+    /// or its number if it has no name.
+    #[error("column '{0}' can't be aligned both left and right")]
     TwoSides(String),
-    /// There was no memory for the table or its drawing.
+    /// Memory ran out.
     #[error("out of memory")]
     OutOfMemory,
 }
 
-/// An error because of which a drawing wasn't written, or not all of it. Each lack of memory is
-/// `OutOfMemory`.
+/// The reason why a drawing wasn't written, or only a part of the drawing. If memory ran out, the
+/// variant is always `CsvError::OutOfMemory`, and never the `OutOfMemory` of an error inside
+/// another variant.
 #[derive(Debug, Drop, Error)]
 pub enum CsvError {
-    /// The source failed during the call.
+    /// Reading the input failed.
     #[error("the input can't be read")]
     Read,
-    /// The sink failed during the call.
+    /// Writing the output failed.
     #[error("the output can't be written")]
     Write,
-    /// The input has no text.
+    /// The bytes of the input can't be decoded into a text.
     #[error("{0}")]
     Decode(DecodeError),
-    /// The text has no records.
+    /// The text can't be read as records.
     #[error("{0}")]
     Records(RecordsError),
-    /// The columns can't be chosen in this way.
+    /// The columns can't be chosen or aligned as the options request.
     #[error("{0}")]
     Columns(ColumnsError),
     /// There was no memory for the records, their table or its drawing.

@@ -6,12 +6,12 @@ ghost use Rattle.csv_command.specs.Hints.{column_count, hint_for, is_alike, list
 use csv_records::Record;
 use std::alloc::{AllocError, Global};
 
-// The greatest number of names that a message lists. It counts the others.
+// The greatest number of names that a message lists. Further names are only counted.
 const MOST_LISTED: usize = 8;
 
 /// The hint for a word that chooses no column: the first similar name, or else a list of the
 /// columns. A similar name differs from the word only in the case of ASCII letters and in white
-/// space at its ends.
+/// space at its ends. The only error is that memory runs out.
 pub(crate) fn hint_of(
     alloc: Global,
     names: &Record<'_>,
@@ -36,7 +36,7 @@ fn position_alike(names: &Record<'_>, word: &str) -> Option<usize>
     names.iter().position(|name| is_alike(word, name))
 }
 
-// True if two names are equal in letters of either case, without white space at the ends.
+// Returns true if two names are equal in letters of either case, without white space at the ends.
 fn is_alike(word: &str, name: &str) -> bool
     ensures { result ≡ is_alike word.now name.now }
 {

@@ -1,4 +1,5 @@
-//! The program `csvtable`: the arguments after its name, its run, and its message at the end.
+//! The program `csvtable`: it reads arguments, draws the table of an input, and ends with a message
+//! and a status.
 #![tactic(auto)]
 
 mod arguments;

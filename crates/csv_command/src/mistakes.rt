@@ -1,13 +1,13 @@
-//! Messages about words that are no number, no encoding or no delimiter, and about options that
-//! have another meaning here.
+//! Messages about words that are no number, no encoding or no delimiter, and about options of other
+//! programs.
 
 ghost use Rattle.std.specs.Prelude.{◌≡◌, IfOk, Some, map, option_map, string_bytes};
-ghost use Rattle.csv_command.specs.Mistakes.{behind_letter, encoding_reason, given, in_one_word, is_number_to, number_reason, reason_of, with_value, wrong_delimiter, wrong_value};
+ghost use Rattle.csv_command.specs.Mistakes.{encoding_reason, given, in_one_word, is_number_to, number_reason, reason_of, split_letter, with_value, wrong_delimiter, wrong_value};
 
 use crate::options::{greatest_number, is_encoding};
 use std::alloc::{AllocError, Global};
 
-/// The message about a word that can't be a delimiter.
+/// The message about a word that can't be a delimiter. The only error is that memory runs out.
 pub(crate) fn reason_of_delimiter(alloc: Global, word: &str) -> Result<String, AllocError>
     ensures { IfOk result (λ reason. string_bytes reason ≡ wrong_delimiter word.now) }
 {
@@ -18,7 +18,7 @@ pub(crate) fn reason_of_delimiter(alloc: Global, word: &str) -> Result<String, A
 }
 
 /// The message about the first word that isn't the number or the encoding that its option takes, or
-/// `None` if there is no such word.
+/// `None` if there is no such word. The only error is that memory runs out.
 pub(crate) fn reason_of_value(
     alloc: Global,
     arguments: &[&str],
@@ -58,13 +58,13 @@ fn in_one_word(word: &str) -> Option<(&str, &str)>
 {
     match word.split_once('=') {
         Some(both) => Some(both),
-        None => word.strip_prefix('-').and_then(behind_letter),
+        None => word.strip_prefix('-').and_then(split_letter),
     }
 }
 
-// Such a word without its hyphen.
-fn behind_letter(rest: &str) -> Option<(&str, &str)>
-    ensures { option_map (λ it. (it.0.now, it.1.now)) result ≡ behind_letter rest.now }
+// An option of one letter and its value, in one word without its hyphen, as `w5` and `w=5`.
+fn split_letter(rest: &str) -> Option<(&str, &str)>
+    ensures { option_map (λ it. (it.0.now, it.1.now)) result ≡ split_letter rest.now }
 {
     match (
         rest.strip_prefix('w'),
@@ -80,7 +80,7 @@ fn behind_letter(rest: &str) -> Option<(&str, &str)>
     }
 }
 
-// An option and the text after it, if that isn't empty.
+// An option and the text after it; `None` if this text is empty.
 fn with_value<'a>(option: &'a str, value: &'a str) -> Option<(&'a str, &'a str)>
     ensures { option_map (λ it. (it.0.now, it.1.now)) result ≡ with_value option.now value.now }
 {
@@ -88,8 +88,8 @@ fn with_value<'a>(option: &'a str, value: &'a str) -> Option<(&'a str, &'a str)>
 }
 
 // The message about an option and the word after it, if the word isn't the number or the encoding
-// that the option takes. Options of other programs that limit records, wrap or sort have messages
-// too.
+// that the option takes. There are also messages about options of other programs that limit
+// records, wrap, sort or filter.
 fn reason_of(alloc: Global, option: &str, word: &str) -> Result<Option<String>, AllocError>
     ensures { IfOk result (λ reason. option_map string_bytes reason
         ≡ reason_of option.now word.now) }
@@ -107,6 +107,7 @@ fn reason_of(alloc: Global, option: &str, word: &str) -> Result<Option<String>, 
         (None, "-e" | "--encoding") => reason_of_encoding(alloc, word),
         (None, "--no-wrap") => Ok(Some(String::from_str(alloc, NO_WRAP)?)),
         (None, "--sort") => Ok(Some(String::from_str(alloc, SORT)?)),
+        (None, "--filter") => Ok(Some(String::from_str(alloc, FILTER)?)),
         _ => Ok(None),
     }
 }
@@ -125,12 +126,15 @@ fn reason_of_encoding(alloc: Global, word: &str) -> Result<Option<String>, Alloc
 }
 
 // The message about an option of other programs against wrapping.
-const NO_WRAP: &str = "-w 0 wraps nothing; -m 1 draws one line for each record";
+const NO_WRAP: &str = "-w 0 wraps nothing; -m 1 draws each row on one line";
 
 // The message about an option of other programs for sorting.
 const SORT: &str = "csvtable doesn't sort; try mlr --csv sort -nr COLUMN FILE | csvtable";
 
-// True if a word is a number up to `greatest`.
+// The message about an option of other programs that selects records.
+const FILTER: &str = "csvtable doesn't filter; try mlr --csv filter '$COLUMN < 0' FILE | csvtable";
+
+// Returns true if a word is a number up to `greatest`.
 fn is_number_to(greatest: usize, word: &str) -> bool
     ensures { result ≡ is_number_to greatest word.now }
 {

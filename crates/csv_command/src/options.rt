@@ -19,10 +19,10 @@ struct OptionSpec {
     name: &'static str,
     letter: Option<char>,
     kind: Kind,
-    // the name of its value in the help text
+    // the name of the option's value in the help text
     value: &'static str,
     help: &'static str,
-    // the heading above it in the help text
+    // the heading above the option in the help text
     heading: &'static str,
 }
 
@@ -63,54 +63,56 @@ static OPTIONS: [OptionSpec; 26] = option_table! {
     "Input", "delimiter", Some('d'), Text, "CHAR",
         "The field delimiter: a character, `tab`, `spaces`,\n\
          or `auto`, which finds it [default: auto]";
-    "Input", "tabs", Some('t'), Letter, "", "As `-d tab`";
+    "Input", "tabs", Some('t'), Letter, "", "Same as `-d tab`";
     "Input", "encoding", Some('e'), Encoding, "NAME",
-        "How the file is written: utf-8, utf-16 or cp1252\n\
-         [default: utf-16 after its mark, else utf-8]";
-    "Input", "no-quotes", None, Flag, "", "Read quotes as characters like others";
-    "Input", "skip", None, Count, "N", "Leave out the first N lines";
+        "The encoding: utf-8, utf-16 or cp1252\n\
+         [default: by a byte order mark, else utf-8]";
+    "Input", "no-quotes", None, Flag, "", "Treat quotes as ordinary characters";
+    "Input", "skip", None, Count, "N", "Skip the first N lines";
     "Input", "no-header", Some('n'), Flag, "", "Draw the first record as a row, not as the header";
-    "Input", "limit", None, Count, "N", "Draw the first N records, and say if there are more";
-    "Input", "count", None, Flag, "", "With --limit: read on, and say how many there are";
+    "Input", "limit", None, Count, "N", "Draw the first N records, and note if there are more";
+    "Input", "count", None, Flag, "", "With --limit: read on, and note how many there are";
     "Columns", "number", Some('l'), Flag, "", "Draw the number of each record in a first column, #";
     "Columns", "columns", Some('c'), Text, "LIST",
-        "Draw these columns in this order, by number, name or\nrange, as `name,3-5,7-`";
-    "Columns", "drop", None, Text, "LIST", "Leave these columns out";
+        "Draw these columns, in this order: numbers, names or\n\
+         ranges, as in `name,3-5,7-`";
+    "Columns", "drop", None, Text, "LIST", "Leave out these columns";
     "Columns", "right", Some('r'), Text, "LIST",
-        "Right-align these columns, as those of numbers are";
-    "Columns", "left", None, Text, "LIST", "Left-align these columns, numbers or not";
+        "Right-align these columns, as columns of numbers are";
+    "Columns", "left", None, Text, "LIST", "Left-align these columns, even if they hold numbers";
     "Columns", "no-decimal", None, Flag, "", "Don't align decimal points";
     "Layout", "width", Some('w'), Width, "N",
-        "The width to keep to, 0 for none [default: that of\nthe terminal, else none]";
-    "Layout", "full", None, Flag, "", "Fill the width";
-    "Layout", "all-expanded", Some('x'), Letter, "", "As `--expanded always`";
+        "The greatest width, in terminal columns; 0 for none\n\
+         [default: that of the terminal, else none]";
+    "Layout", "full", None, Flag, "", "Fill the width, even if less is needed";
+    "Layout", "all-expanded", Some('x'), Letter, "", "Same as `--expanded always`";
     "Layout", "expanded", None, When, "WHEN",
-        "Records as names and fields: always, never, or auto,\n\
-         where columns would be too narrow [default: auto]";
+        "Draw records as names and fields: always, never, or\n\
+         auto, if columns would be too narrow [default: auto]";
     "Output", "style", Some('s'), Style, "NAME",
-        "How the frame looks, see below [default: rounded]";
-    "Output", "rows", None, Flag, "", "Draw lines between rows, in each style that has them";
+        "The frame: a style from the list below [default: rounded]";
+    "Output", "rows", None, Flag, "", "Draw lines between rows, if the style has them";
     "Output", "no-rows", None, Flag, "", "Draw no lines between rows";
     "Layout", "max-height", Some('m'), Count, "N",
-        "Cut rows after N lines, with `…` where more is left;\n\
-         `-m 1` draws one line for each record";
+        "Draw at most N lines of each row, and `…` if it has\n\
+         more; `-m 1` draws each row on one line";
     "Output", "markdown", None, Flag, "", "Draw a table for Markdown";
     "Output", "color", None, When, "WHEN",
-        "The header in bold: always, never, or auto, in a\n\
-         terminal unless NO_COLOR is set [default: auto]";
-    "Output", "ansi", None, Flag, "", "Keep the colours of fields; they take no room";
+        "Draw the header in bold: always, never, or auto, which\n\
+         means in a terminal without NO_COLOR [default: auto]";
+    "Output", "ansi", None, Flag, "", "Keep the colours of fields; they don't count in widths";
 };
 
 static AFTER_HELP: &str = "\
 Examples:
-  csvtable -e cp1252 --skip 4 bank.csv        what a bank sends
+  csvtable -e cp1252 --skip 4 bank.csv        a bank's file
   csvtable -c name,3-5 --limit 20 big.csv     some columns of the first records
-  csvtable -m 1 -w 100 notes.csv              one line for each record
+  csvtable -m 1 -w 100 notes.csv              one line for each row
   csvtable --markdown list.csv                a table for a README
 
 Styles: rounded, box, grid, ascii, plain, markdown, and NOTHING, ASCII_MARKDOWN,
 ASCII_BORDERS_ONLY_CONDENSED; ASCII_ or UTF8_ before FULL, FULL_CONDENSED,
-NO_BORDERS, BORDERS_ONLY or HORIZONTAL_ONLY; all in any case of letters.";
+NO_BORDERS, BORDERS_ONLY or HORIZONTAL_ONLY; in upper or lower case.";
 
 static WHENS: [&str; 3] = ["auto", "always", "never"];
 
@@ -127,7 +129,7 @@ static ENCODINGS: [&str; 10] = [
     "utf-16le",
 ];
 
-/// True if a word is the name of an encoding, in letters of either case.
+/// Returns true if a word is the name of an encoding, in letters of either case.
 pub(crate) fn is_encoding(word: &str) -> bool
     ensures { result ≡ is_encoding word.now }
 {
@@ -203,8 +205,8 @@ fn with_value<'a>(arg: Arg<'a>, kind: Kind, styles: &'a [&'a str]) -> Arg<'a>
     }
 }
 
-// An argument whose value is one of these names. Its help text lists them in fewer words than clap
-// would.
+// An argument whose value must be one of these names. The help text of the argument lists the names
+// in fewer words than clap would.
 fn with_names<'a>(arg: Arg<'a>, names: &'a [&'a str]) -> Arg<'a>
     ensures { bare (rule_of result)
         ≡ (
@@ -215,8 +217,8 @@ fn with_names<'a>(arg: Arg<'a>, names: &'a [&'a str]) -> Arg<'a>
     arg.value_parser(names).hide_possible_values(true)
 }
 
-/// The greatest number that an option takes, given its name or its letter. `None` if it takes no
-/// number, or isn't known.
+/// The greatest number that the option `word` takes, such as `--width` or `-w`. `None` if the
+/// option takes no number, or isn't known.
 pub(crate) fn greatest_number(word: &str) -> Option<usize>
     ensures { result ≡ greatest_number word.now }
 {
@@ -246,7 +248,7 @@ fn greatest_read(option: &OptionSpec) -> Option<usize>
     }
 }
 
-// True if a word calls an option by its name or its letter.
+// Returns true if a word is a hyphen and the option's letter, or two hyphens and the option's name.
 fn is_called(option: &OptionSpec, word: &str) -> bool
     ensures { result ≡ is_called word.now (rule_for option.now).0 }
 {
@@ -256,8 +258,8 @@ fn is_called(option: &OptionSpec, word: &str) -> bool
     }
 }
 
-// True if the rest of a word after its first hyphen is a hyphen with an option's name, or its
-// letter.
+// Returns true if the rest of a word after its first hyphen is a hyphen with an option's name, or
+// its letter.
 fn is_name_of(option: &OptionSpec, rest: &[u8]) -> bool
     ensures { result ≡ is_name_of rest.now (rule_for option.now).0 }
 {

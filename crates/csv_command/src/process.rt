@@ -1,5 +1,5 @@
-//! Calls of the system: the arguments, the streams, the environment and the file. `parse` and
-//! `ending` use their answers.
+//! Runs the program with the arguments, the streams, the environment and the files of its process.
+//! The modules `arguments` and `ending` get all facts as values, and return values.
 
 use crate::arguments::{Invocation, OutputContext, parse};
 use crate::ending::{
@@ -16,10 +16,11 @@ use std::io::{IsTerminal, Read, Write};
 use std::process::ExitCode;
 use std::{env, io};
 
-/// Runs the program over the standard streams, with the arguments of the process, and returns its
-/// status. It is 0 if the drawing, help or the version was written. It is 1 after an error, with a
-/// line on standard error. It is 2 if the arguments aren't known, with a reason on standard error.
-/// If a pipe has no reader any more, the status is 1, without a line.
+/// Runs the program over the standard streams, with the arguments of the process, and returns the
+/// exit status. The status is 0 if the drawing, help or the version was written. After an error the
+/// status is 1, with a line on standard error. If the arguments are refused, the status is 2, with
+/// a reason on standard error. If standard output is a pipe that has no reader any more, the status
+/// is 1, without a line.
 ///
 /// ```
 /// fn main(rt: HostRuntime) -> ExitCode {
@@ -34,7 +35,8 @@ pub fn run_with_arguments(rt: &HostRuntime) -> ExitCode {
     end(rt, &ending)
 }
 
-// A writer that notes if any byte is written.
+// A writer that remembers if anything was written: `is_blank` is true before the first call of
+// `write`.
 #[derive(Drop)]
 struct Noting<W> {
     writer: W,
@@ -54,7 +56,7 @@ impl<W: Write> Write for Noting<W> {
     }
 }
 
-// A sink that goes on if a signal interrupts a write.
+// A sink that continues a write that a signal interrupts.
 type WriterTo<W> = ToWriter<Uninterrupted<W>>;
 
 fn writer_of<W: Write>(writer: W) -> WriterTo<W> {
@@ -64,7 +66,7 @@ fn writer_of<W: Write>(writer: W) -> WriterTo<W> {
 // Writes the message and returns the status. Help goes to standard output; if it can't be written,
 // the status is 1. A failure to write to standard error changes nothing.
 fn end(rt: &HostRuntime, ending: &Ending) -> ExitCode {
-    let text = ending.said.text().as_bytes();
+    let text = ending.message.text().as_bytes();
     if ending.is_message {
         let _ = write_all(&mut writer_of(rt.stderr()), text);
         return ExitCode::from(ending.status);
@@ -109,8 +111,8 @@ fn variable(rt: &HostRuntime, name: &str) -> Result<Option<String>, AllocError> 
 
 // Draws the file, or standard input.
 fn run(rt: &HostRuntime, invocation: &Invocation) -> Ending {
-    let said = waiting_notice(&invocation.file, rt.stdin().is_terminal());
-    let _ = write_all(&mut writer_of(rt.stderr()), said.as_bytes());
+    let message = waiting_notice(&invocation.file, rt.stdin().is_terminal());
+    let _ = write_all(&mut writer_of(rt.stderr()), message.as_bytes());
     let mut output = Noting {
         writer: rt.stdout(),
         is_blank: true,
@@ -132,7 +134,7 @@ fn run(rt: &HostRuntime, invocation: &Invocation) -> Ending {
     )
 }
 
-// The result, and the error on opening or reading the input, if there was one.
+// The result of a drawing, and the error on opening or reading the input, if there was one.
 type DrawingResult = (Result<Option<LongRecords>, CsvError>, Option<io::ErrorKind>);
 
 fn drawn<W: Write>(

@@ -7,7 +7,7 @@ use comfy_parts::style::TableStyle;
 use comfy_parts::style::presets::{self, ASCII_FULL, ASCII_MARKDOWN, NOTHING, UTF8_FULL};
 use std::alloc::{AllocError, Global};
 
-/// The names of styles, the program's own names first.
+/// The names of styles, the program's own names first. The only error is that memory runs out.
 pub(crate) fn style_names(alloc: Global) -> Result<Vec<&'static str>, AllocError>
     ensures { IfOk result (λ names. map (λ name. name.now) names.items ≡ style_names) }
 {
@@ -16,21 +16,23 @@ pub(crate) fn style_names(alloc: Global) -> Result<Vec<&'static str>, AllocError
     Ok(names)
 }
 
-/// The style with this name in letters of either case, or `rounded` without a name.
+/// The style with this name, in letters of either case. Without a name the style is `rounded`, and
+/// for an unknown name `UTF8_FULL`.
 pub(crate) fn style_of(name: Option<&str>) -> TableStyle
     ensures { result ≡ style_for (option_map (λ n. n.now) name.entry) }
 {
     name.map_or(rounded(), named_style)
 }
 
-/// True for the names `rounded` and `box`, and without a name, which means `rounded`.
+/// Returns true for the names `rounded` and `box`, and without a name, which means `rounded`. These
+/// styles have lines between rows only if a row has more than one line.
 pub(crate) fn is_compact(name: Option<&str>) -> bool
     ensures { result ≡ is_compact (option_map (λ n. n.now) name.entry) }
 {
     name.is_none_or(|name| is_named("rounded", name) || is_named("box", name))
 }
 
-/// True if two names are equal in letters of either case.
+/// Returns true if two names are equal, in letters of either case.
 pub(crate) fn is_named(name: &str, word: &str) -> bool
     ensures { result ≡ is_named name.now word.now }
 {
@@ -81,7 +83,7 @@ fn named_style(name: &str) -> TableStyle
     }
 }
 
-// The style of the first name that is equal to this one.
+// The style of the first entry whose name is equal to this name.
 fn style_within(styles: &[(&'static str, TableStyle)], name: &str) -> Option<TableStyle>
     ensures { result ≡ style_within (map (λ entry. (entry.0.now, entry.1)) styles.now) name.now }
 {

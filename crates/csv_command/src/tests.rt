@@ -19,7 +19,7 @@ const NOWHERE: OutputContext<'static> = OutputContext {
 
 // Fails unless an ending has this status and this text, as a message or as an output.
 fn assert_says(rt: &impl Abort, ending: &Ending, status: u8, is_message: bool, text: &str) {
-    assert_eq!(rt; ending.said.text(), text);
+    assert_eq!(rt; ending.message.text(), text);
     assert!(rt; ending.status == status, "the status with {text}");
     assert!(rt; ending.is_message == is_message, "where {text} goes");
 }
@@ -52,7 +52,7 @@ fn name(rt: &(impl Abort + Alloc<A = Global>), name: &str) -> String {
     String::from_str(rt.alloc(), name).expect(rt, "memory")
 }
 
-// The file is named, and the reason says why it can't be read.
+// The message has the name of the file, and the reason for which it can't be read.
 #[test]
 fn a_file_that_can_not_be_read(rt: HostRuntime) {
     let arguments = ["csvtable", "a.csv"];
@@ -78,7 +78,7 @@ fn a_file_that_can_not_be_read(rt: HostRuntime) {
     }
 }
 
-// If no file is named, the program waits for a terminal.
+// If no file is named and standard input is a terminal, the program waits for input.
 #[test]
 fn a_terminal_is_waited_for(rt: HostRuntime) {
     let waiting = "csvtable: reading from the terminal; end with Ctrl-D\n";
@@ -88,14 +88,14 @@ fn a_terminal_is_waited_for(rt: HostRuntime) {
         (["csvtable", "-"], false, ""),
         (["csvtable", "a.csv"], true, ""),
     ];
-    for (arguments, is_terminal, said) in &cases {
+    for (arguments, is_terminal, message) in &cases {
         let invocation = parse_by(&rt, arguments.as_slice());
-        assert_eq!(rt; waiting_notice(&invocation.file, *is_terminal), *said);
+        assert_eq!(rt; waiting_notice(&invocation.file, *is_terminal), *message);
     }
 }
 
-// The file is named too if its bytes are wrong. The two lines with a name are those of the page
-// about the program.
+// The message also has the name of the file if the bytes of the file are wrong. The two messages
+// with a name are also on the page about the program.
 #[test]
 fn an_input_that_can_not_be_drawn(rt: HostRuntime) {
     let arguments = ["csvtable", "bank.csv"];
@@ -202,7 +202,7 @@ fn an_input_that_is_something_else(rt: HostRuntime) {
     }
 }
 
-// No control character of a typed or read name reaches the terminal.
+// No control character reaches the terminal, neither from typed names nor from names in the input.
 #[test]
 fn columns_that_can_not_be_drawn(rt: HostRuntime) {
     let arguments = ["csvtable"];
@@ -215,7 +215,7 @@ fn columns_that_can_not_be_drawn(rt: HostRuntime) {
     let text = "csvtable: standard input: no column is left\n";
     assert_message(&rt, &invocation, error, None, text);
     let error = CsvError::Columns(ColumnsError::TwoSides(name(&rt, "b")));
-    let text = "csvtable: standard input: column 'b' can't stand at the right and at the left\n";
+    let text = "csvtable: standard input: column 'b' can't be aligned both left and right\n";
     assert_message(&rt, &invocation, error, None, text);
 }
 
@@ -249,7 +249,8 @@ fn a_drawing_that_ends(rt: HostRuntime) {
     assert_unwritten(&rt, &invocation, ErrorKind::BrokenPipe, "");
 }
 
-// The message after a drawing was written that has these long records, or is blank in a terminal.
+// The message after a drawing was written: the drawing has these long records, or is empty and went
+// to a terminal.
 fn assert_drawn<'a>(
     rt: &(impl Abort + Alloc<A = Global>),
     arguments: &'a [&'a str],
@@ -347,7 +348,7 @@ fn help_is_an_output(rt: HostRuntime) {
         let arguments = ["csvtable", argument];
         let ending = ending_by(&rt, &arguments);
         assert!(rt; ending.status == 0 && !ending.is_message);
-        let text = ending.said.text();
+        let text = ending.message.text();
         assert!(rt;
             text.starts_with(
                 "Draws the records of a CSV file as a table\n\n\
@@ -355,7 +356,7 @@ fn help_is_an_output(rt: HostRuntime) {
             )
         );
         assert!(rt; text.contains("\n  -h, --help     Print help\n"));
-        assert!(rt; text.ends_with("all in any case of letters.\n"));
+        assert!(rt; text.ends_with("in upper or lower case.\n"));
     }
     for argument in ["-V", "--version"] {
         let arguments = ["csvtable", argument];
@@ -403,9 +404,9 @@ fn assert_refused<'a>(
     reason: &str,
 ) {
     let ending = ending_by(rt, arguments);
-    let said = ending.said.text();
+    let message = ending.message.text();
     assert!(rt; ending.status == 2 && ending.is_message);
-    let line = said.split('\n').next().unwrap_or("");
+    let line = message.split('\n').next().unwrap_or("");
     assert_eq!(rt; line.strip_prefix("error: ").unwrap_or(""), reason);
 }
 
@@ -460,7 +461,7 @@ fn words_that_are_no_numbers(rt: HostRuntime) {
         ),
         (
             ["csvtable", "a.csv", "--no-wrap"],
-            "-w 0 wraps nothing; -m 1 draws one line for each record",
+            "-w 0 wraps nothing; -m 1 draws each row on one line",
         ),
         (
             ["csvtable", "-e", "cp1250"],
@@ -484,6 +485,10 @@ fn words_that_are_no_numbers(rt: HostRuntime) {
         (
             ["csvtable", "a.csv", "--sort=a"],
             "csvtable doesn't sort; try mlr --csv sort -nr COLUMN FILE | csvtable",
+        ),
+        (
+            ["csvtable", "--filter", "a<0"],
+            "csvtable doesn't filter; try mlr --csv filter '$COLUMN < 0' FILE | csvtable",
         ),
     ];
     for (arguments, reason) in &cases {

@@ -19,25 +19,25 @@ use csv_tables::{Layout, RecordDrawing, Selection, drawn_records};
 use devices::{Render, Rendered, Sink, Source};
 use std::alloc::Global;
 
-/// Reads the source, and writes the drawing of the table of its records to the sink, each line
-/// followed by a line feed. If not all records are drawn, a line gives their number.
+/// Reads the source, and writes the table of its records to the sink, with a line feed after each
+/// line. If not all records are drawn, the last line reports the number of all records.
 ///
-/// The source is read whole, unless there is a limit and records aren't counted. Then 65536 bytes
-/// are read, then twice as many, and so on. Reading stops when their complete lines have more
-/// records than are drawn, and show the delimiter. The last line of the drawing then says only that
-/// there are more records. The rest of the source isn't checked. The drawing doesn't depend on the
-/// sizes in which the source delivers its bytes.
+/// The source is read whole, unless there is a limit and `counts_all` is false. In this case the
+/// first 65536 bytes are tried, then the first 131072, and so on. Reading stops if the complete
+/// lines of these bytes have more records than are drawn, and show the delimiter. The last line of
+/// the drawing then says only that there are more records. The rest of the source isn't checked.
+/// The drawing doesn't depend on the sizes in which the source delivers its bytes.
 ///
 /// An input without records has an empty output.
 ///
-/// Returns the records with more fields than the header, if some drawn records have more.
+/// Returns a report of the drawn records that have more fields than the header, or `None` if no
+/// drawn record has more fields.
 ///
 /// # Errors
 ///
-/// The drawing is written in pieces. Nothing is written if the input can't be read, is no text,
-/// isn't in its encoding or has a quote that is never closed, or if columns can't be chosen. If the
-/// output can't be written, a beginning of it was written. If memory runs out, nothing or a
-/// beginning was written, but never all of it.
+/// The drawing is written in pieces. After `Read`, `Decode`, `Records` and `Columns` nothing was
+/// written. After `Write` a beginning of the drawing was written. After `OutOfMemory` nothing or a
+/// beginning of the drawing was written, but never the whole drawing.
 ///
 /// ```
 /// let mut source = FromReader::new(rt.stdin());
@@ -61,7 +61,7 @@ pub fn draw<R: Source, W: Sink>(
     Ok(devices::run(alloc, source, sink, options)?)
 }
 
-// A drawing, and its records with more fields than the header.
+// A drawing, and a report of its records that have more fields than the header.
 type Drawing = Rendered<RecordDrawing, Option<LongRecords>>;
 
 impl Render for Options {
@@ -147,7 +147,9 @@ fn output_of(
     Ok(drawn_records(alloc, records, count, &layout)?)
 }
 
-/// The output for an input that was read whole.
+/// Returns the output for a whole input: the table of its records, or an empty text if there are no
+/// records. All records are counted, even if `counts_all` is false. The errors are those of `draw`
+/// except `Read` and `Write`.
 pub fn output_of_input(alloc: Global, input: Vec<u8>, options: &Options) -> Result<String, CsvError>
     ensures output { IfOk result (λ output.
         RendersInput options.now input.items (string_bytes output)) }
@@ -156,7 +158,8 @@ pub fn output_of_input(alloc: Global, input: Vec<u8>, options: &Options) -> Resu
     Ok(joined(alloc, rendered_input(alloc, input, options)?.pieces)?)
 }
 
-// The drawing of an input that was read whole, and its long records.
+// The drawing of an input that was read whole, and a report of its records that have more fields
+// than the header.
 fn rendered_input(alloc: Global, input: Vec<u8>, options: &Options) -> Result<Drawing, CsvError>
     ensures output { IfOk result (λ rendered.
         RendersInput options.now input.items rendered.pieces) }

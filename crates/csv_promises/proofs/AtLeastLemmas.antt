@@ -56,8 +56,8 @@ least SolidusAlef = 0
 least _ = 1
 
 -- the least total, counted from 1, after a character of n - 1 columns; U+17D2 may take one column away again
-abbrev asked : ℕ → ℕ
-asked n = if n == 2 then 1 else n
+abbrev required : ℕ → ℕ
+required n = if n == 2 then 1 else n
 
 -- the characters that may follow
 abbrev may_come : ℕ → Bool
@@ -70,7 +70,7 @@ is_well_read a n r =
     not r.1.text
     && (nat_le (1 + credit r.1.after) (r.0 + credit a)
     && (nat_le (1 + least r.1.after) (r.0 + least a)
-    && nat_le (asked n + credit r.1.after) (r.0 + least a)))
+    && nat_le (required n + credit r.1.after) (r.0 + least a)))
 
 -- the same if d, the character of this step, may follow
 abbrev is_well_read_by : ℕ → After → ℕ → Reading → Bool
@@ -143,7 +143,7 @@ well_read d a e q d_in may =
 record IsRead (cs : List ℕ) : Type 0 where
   shown : (read cs).1.text ≡ false
   enough : least (read cs).1.after + 1 ≤ (read cs).0
-  each_fits : (x : ℕ) → IsIn cs x → asked (own x) + credit (read cs).1.after ≤ (read cs).0
+  each_fits : (x : ℕ) → IsIn cs x → required (own x) + credit (read cs).1.after ≤ (read cs).0
 
 read-nothing : IsRead []
 read-nothing = record { shown = refl; enough = omega arith; each_fits = λ x none. absurd none }
@@ -168,7 +168,7 @@ read-more c cs may r =
     let fits = leb-true _ _ three.1 in
     let credits = ap (λ (x : State). credit x.after) it.0 in
     let leasts = ap (λ (x : State). least x.after) it.0 in
-    let mine = ap (λ (x : Reading). asked x.0) (step-like c d.0 1 plain d.2) in
+    let mine = ap (λ (x : Reading). required x.0) (step-like c d.0 1 plain d.2) in
     let before = r.enough in
     record {
       shown = ap (λ (x : State). x.text) it.0 ∙ not-true _ one.0;
@@ -178,9 +178,9 @@ read-more c cs may r =
   where
     more : (d : ℕ) (next : Reading) → (read (c ∷ cs)).0 + 1 ≡ (read cs).0 + next.0 → credit (read (c ∷ cs)).1.after ≡ credit next.1.after
         → 1 + credit next.1.after ≤ next.0 + credit (read cs).1.after
-        → asked (own c) + credit (read (c ∷ cs)).1.after ≤ (read (c ∷ cs)).0
-        → (x : ℕ) → IsIn (c ∷ cs) x → asked (own x) + credit (read (c ∷ cs)).1.after ≤ (read (c ∷ cs)).0
-    more d next total credits kept mine x (inl is) = subst (λ y. asked (own y) + credit (read (c ∷ cs)).1.after ≤ (read (c ∷ cs)).0) (sym is) mine
+        → required (own c) + credit (read (c ∷ cs)).1.after ≤ (read (c ∷ cs)).0
+        → (x : ℕ) → IsIn (c ∷ cs) x → required (own x) + credit (read (c ∷ cs)).1.after ≤ (read (c ∷ cs)).0
+    more d next total credits kept mine x (inl is) = subst (λ y. required (own y) + credit (read (c ∷ cs)).1.after ≤ (read (c ∷ cs)).0) (sym is) mine
     more d next total credits kept mine x (inr later) = let old = r.each_fits x later in omega (arith, old, kept, credits, total)
 
 read-all : (cs : List ℕ) → list_all (may_come) cs ≡ true → IsRead cs
@@ -191,8 +191,8 @@ read-all (c ∷ cs) all =
 
 -- ---- a text and its characters
 
-asked-one : (n w : ℕ) → asked (n + 1) ≤ w + 1 → n ≤ max 1 w
-asked-one n w h = by_test (n + 1 == 2) refl h
+required-one : (n w : ℕ) → required (n + 1) ≤ w + 1 → n ≤ max 1 w
+required-one n w h = by_test (n + 1 == 2) refl h
   where
     by_test : (b : Bool) → (n + 1 == 2) ≡ b → (if b then 1 else n + 1) ≤ w + 1 → n ≤ max 1 w
     by_test true is h = let two = eqb-true (n + 1) 2 is in omega (arith, two)
@@ -204,7 +204,7 @@ wide_as_each_or_one cs all c known =
     let fits = (read-all cs all).each_fits c known in
     let total = one_more cs in
     let mine = one_more (c ∷ []) in
-    asked-one (str_width false (c ∷ [])) (str_width false cs) (omega (arith, fits, total, ap asked mine))
+    required-one (str_width false (c ∷ [])) (str_width false cs) (omega (arith, fits, total, ap required mine))
 
 -- ---- the same of a text in UTF-8
 

@@ -16,7 +16,7 @@ use Rattle.csv_tables.specs.Drawn.{SelectedValue, columns_of, selected_of, drawn
 use Rattle.csv_tables.specs.declared.options.ColumnPlan.{ColumnPlan}
 use Rattle.csv_promises.proofs.DrawnColumnLemmas.{AreBelow, placed, some_drawn}
 use Rattle.csv_promises.proofs.PositionLemmas.{at_sides, chosen, found_by, kept_positions, some_kept}
-use Rattle.csv_promises.specs.Fields.{columns_asked, positions_by, positions_by_each, positions_in}
+use Rattle.csv_promises.specs.Fields.{columns_of_options, positions_by, positions_by_each, positions_in}
 use Rattle.csv_promises.specs.Width.{all_columns, columns_in}
 
 -- ---- positions
@@ -135,8 +135,8 @@ module _ (options : Options) (records : List (List Text)) (own : ColumnsValue) (
   positions = kept_positions names (count_of names rows) (filled_count names rows) options.columns.chosen.items options.columns.dropped.items own.drawn (chosen names _ _ _ own found)
 
   -- the columns and their alignments are those that options choose
-  pub are_asked : own ≡ columns_asked options names rows
-  are_asked =
+  pub are_columns_chosen : own ≡ columns_of_options options names rows
+  are_columns_chosen =
       let sides = at_sides names _ _ _ own found in
       let count = count_of names rows in
       let right = found_by names count options.columns.right.items own.right sides.0 in

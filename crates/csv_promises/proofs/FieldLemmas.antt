@@ -11,7 +11,7 @@ use Rattle.comfy_parts.specs.Text.{Text, is_printable_ascii, spaces}
 use Rattle.comfy_parts.specs.declared.style.cell.CellAlignment.{CellAlignment}
 use Rattle.csv.specs.Records.{field_at}
 use Rattle.csv_records.specs.Cleaning.{cleaned, visible_of}
-use Rattle.csv_records.specs.Decimals.{spaces_behind}
+use Rattle.csv_records.specs.Decimals.{trailing_spaces}
 use Rattle.csv_records.specs.Number.{is_neutral}
 use Rattle.csv_records.specs.declared.decimals.Points.{Points}
 use Rattle.csv_tables.specs.Decimals.{spaced}
@@ -109,7 +109,7 @@ module _ (look : Look) (unkept : look.has_sequences ≡ false) (none : look.is_m
   -- a text has the spaces that align the mark of its column
   text_is : (mark : Option Points) (field : Text) → IsUtf8 field → cleaned false (spaced look.has_sequences mark field) ≡ lined_up mark field
   text_is None field utf8 = refl
-  text_is (Some points) field utf8 = ap (λ (keeps : Bool). cleaned false (field ++ spaces (spaces_behind points (visible_of keeps field)))) unkept ∙ cleaned-spaced field (spaces_behind points field) utf8
+  text_is (Some points) field utf8 = ap (λ (keeps : Bool). cleaned false (field ++ spaces (trailing_spaces points (visible_of keeps field)))) unkept ∙ cleaned-spaced field (trailing_spaces points field) utf8
 
   -- the marks of columns are those at their positions
   abbrev HaveMarks : (ℕ → Option Points) → Bool → List ColumnPlan → Type 0
@@ -160,12 +160,12 @@ module _ (look : Look) (unkept : look.has_sequences ≡ false) (none : look.is_m
       by_column (Some d) is = inl is
 
   -- fields after a number, or without one
-  behind : (is_bold is_numbered : Bool) (number : Text) → is_printable_ascii number ≡ true → (sides : List CellAlignment) (fields : List Text) (shown : List Shown) → HoldEach sides fields (cells_for look is_bold shown)
+  after : (is_bold is_numbered : Bool) (number : Text) → is_printable_ascii number ≡ true → (sides : List CellAlignment) (fields : List Text) (shown : List Shown) → HoldEach sides fields (cells_for look is_bold shown)
       → HoldEach (sides_after_number is_numbered sides) (row_after_number is_numbered number fields) (cells_for look is_bold (shown_number (if is_numbered then Some number else None) ++ shown))
   unfolding field_at
-  behind is_bold true number printable sides fields shown own zero = cell_holds is_bold (Some Right) number number (cleaned-printable false number printable)
-  behind is_bold true number printable sides fields shown own (suc i) = own i
-  behind is_bold false number printable sides fields shown own i = own i
+  without_leading is_bold true number printable sides fields shown own zero = cell_holds is_bold (Some Right) number number (cleaned-printable false number printable)
+  without_leading is_bold true number printable sides fields shown own (suc i) = own i
+  without_leading is_bold false number printable sides fields shown own i = own i
 
   -- ---- rows of a table
 
@@ -178,7 +178,7 @@ module _ (look : Look) (unkept : look.has_sequences ≡ false) (none : look.is_m
     is_header is_numbered names utf8 =
         record {
           hold = record {
-            each = behind look.has_bold_header is_numbered (number_name names) (name_is_printable names) (own_sides columns) (fields_at no_marks (positions_of columns) names) (shown_fields look false columns names)
+            each = after look.has_bold_header is_numbered (number_name names) (name_is_printable names) (own_sides columns) (fields_at no_marks (positions_of columns) names) (shown_fields look false columns names)
                 (cells_are look.has_bold_header false no_marks columns columns (λ i d found. refl) names (all_own names columns) utf8);
             uncut = refl;
           };
@@ -190,7 +190,7 @@ module _ (look : Look) (unkept : look.has_sequences ≡ false) (none : look.is_m
     are_rows is_aligned is_numbered marks have n (fields ∷ rows) utf8 = (
       record {
         hold = record {
-          each = behind false is_numbered (decimal n) (number_is_printable n) (own_sides columns) (fields_at marks (positions_of columns) fields) (shown_fields look is_aligned (columns_within fields columns) fields)
+          each = after false is_numbered (decimal n) (number_is_printable n) (own_sides columns) (fields_at marks (positions_of columns) fields) (shown_fields look is_aligned (columns_within fields columns) fields)
               (cells_are false is_aligned marks columns (columns_within fields columns) have fields (reaches fields columns) (All-head (All IsUtf8) fields rows utf8));
           uncut = ap (option_map (max 1)) whole;
         };

@@ -132,8 +132,8 @@ harmless_for look output none in_bold unstyled closed =
       visible = visible_text output;
       shows = shows_visible (suc (length output)) output (omega arith) (no_escape (visible_text output) none);
       harmless = none;
-      in_bold = λ asked. let own = in_bold asked in subst (λ (t : Text). IsInBold t output) (sym (visible_text-is own.0 output (shows_bold own.1 (no_escape own.0 own.2)))) own.1;
-      plain = λ asked. sym (visible_text-is output output (Shows-clear output (no_escape output (unstyled asked))));
+      in_bold = λ tested. let own = in_bold tested in subst (λ (t : Text). IsInBold t output) (sym (visible_text-is own.0 output (shows_bold own.1 (no_escape own.0 own.2)))) own.1;
+      plain = λ tested. sym (visible_text-is output output (Shows-clear output (no_escape output (unstyled tested))));
       closed = closed;
     }
 
@@ -322,7 +322,7 @@ module _ (options : Options) (clear : IsHarmlessStyle options.look.style) where
       any : (records : List (List Text)) → All AllText records → RendersCounted options records output → IsHarmlessFor options.look output
       any [] text is = subst (IsHarmlessFor options.look) (sym is) (nothing_is_harmless options.look)
       any (first ∷ rest) text is = chosen (Some (count_below options.selection (first ∷ rest))) (first ∷ rest) output text is
-  drawn_harmless input output (inr (n, asked, made)) = chosen None made.records output made.are_enough.are.are_records.are_records.are_text made.is_output
+  drawn_harmless input output (inr (n, tested, made)) = chosen None made.records output made.are_enough.are.are_records.are_records.are_text made.is_output
 
 pub written_harmless : (arguments : List Text) (context : OutputContext) (invocation : Invocation) (input output : Text) → IsParsed arguments context invocation → IsDrawnOf invocation.options input output → IsHarmlessFor invocation.options.look output
 written_harmless arguments context invocation input output is drawn = drawn_harmless invocation.options (parsed_style_without_controls arguments context invocation is) input output drawn

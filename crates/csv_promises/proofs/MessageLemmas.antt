@@ -107,7 +107,7 @@ message invocation fault e = (about (is_of_input e) (option_map string_bytes inv
     of_columns (columns.NoColumn word more) =
         both _ _ (both (codes "no column '") (shown_name (string_bytes word)) (printable (codes "no column '") refl) (name (string_bytes word))) (both (codes "'; ") (shown_name (string_bytes more)) (printable (codes "'; ") refl) (name (string_bytes more)))
     of_columns columns.NoneLeft = printable (codes "no column is left") refl
-    of_columns (columns.TwoSides own) = both _ (codes "' can't stand at the right and at the left") (both (codes "column '") (shown_name (string_bytes own)) (printable (codes "column '") refl) (name (string_bytes own))) (printable (codes "' can't stand at the right and at the left") refl)
+    of_columns (columns.TwoSides own) = both _ (codes "' can't be aligned both left and right") (both (codes "column '") (shown_name (string_bytes own)) (printable (codes "column '") refl) (name (string_bytes own))) (printable (codes "' can't be aligned both left and right") refl)
     of_columns columns.OutOfMemory = printable (codes "out of memory") refl
 
     reason : (encoding : Option Encoding) (e : CsvError) → IsTame (reason_for encoding fault e)

@@ -41,14 +41,14 @@ use Rattle.csv_promises.proofs.FrameLemmas.{pair_columns, places_of, reaches, ro
 use Rattle.promises.specs.Headline.{IsUncoloured}
 use Rattle.csv_promises.proofs.ExpandedLemmas.{rows_at}
 use Rattle.csv_promises.proofs.FieldLemmas.{IsRowFor, are_pairs, are_rows, is_header, own_sides, positions_of}
-use Rattle.csv_promises.proofs.ColumnLemmas.{are_asked, are_below, some_position}
+use Rattle.csv_promises.proofs.ColumnLemmas.{are_below, are_columns_chosen, some_position}
 use Rattle.csv_promises.proofs.DrawnColumnLemmas.{AreBelow, placed, reaches_last}
 use Rattle.csv_promises.proofs.RecordLemmas.{all_drawn, with_rows-header}
 use Rattle.csv_promises.proofs.ShownTableLemmas.{HasPlainFields, HasRowsOf, has_rows_of, part_shows, no_custom_styling}
 use Rattle.csv_promises.proofs.LineLemmas.{may_expand, no_records, no_rows, none_below, nothing_noted}
 use Rattle.csv_promises.proofs.WrittenLemmas.{IsDrawnBy, by_extent}
 use Rattle.csv_promises.specs.Counted.{AreExpanded, IsCount, IsWrittenFor}
-use Rattle.csv_promises.specs.Fields.{AreLinedUp, IsDrawingOf, KeepsNumbers, KeepsWhole, ShowsAllFields, ShowsFields, fields_at, row_after_number, rows_from, ShowsPairs, ShowsRecords, ShowsRows, columns_asked, lined_up, mark_for, no_marks, pairs_at, all_rows, sides_after_number, whole_for, whole_pairs}
+use Rattle.csv_promises.specs.Fields.{AreLinedUp, IsDrawingOf, KeepsNumbers, KeepsWhole, ShowsAllFields, ShowsFields, fields_at, row_after_number, rows_from, ShowsPairs, ShowsRecords, ShowsRows, columns_of_options, lined_up, mark_for, no_marks, pairs_at, all_rows, sides_after_number, whole_for, whole_pairs}
 use Rattle.csv_promises.proofs.WholeLemmas.{AreColumns, kept_whole, marks-shown, pairs_keep_numbers, pairs_kept_whole, sides-shown, nowrap-shown, whole-widest}
 use Rattle.csv_promises.specs.Written.{IsWritten}
 
@@ -135,8 +135,8 @@ module _ (look : Look) (all : DrawsAll look) (is_numbered : Bool) (noun : Noun) 
       headed : is_some (table false text renders).header ≡ is_some names
       headed = ap is_some ((is false text renders).header ∙ with_rows-header made (headed_table look is_numbered columns names)) ∙ by_header names
 
-      behind-length : (number : Text) (at : ℕ → Option Points) (own : List Text) → length (row_after_number is_numbered number (fields_at at (positions_of columns) own)) ≡ places_of content
-      behind-length number at own =
+      after-length : (number : Text) (at : ℕ → Option Points) (own : List Text) → length (row_after_number is_numbered number (fields_at at (positions_of columns) own)) ≡ places_of content
+      after-length number at own =
           let long : length (fields_at at (positions_of columns) own) ≡ length columns = length-map (positions_of columns) (λ position. lined_up (at position) (field_or_blank own position)) ∙ length-map columns (λ (column : ColumnPlan). column.position) in
           by_number is_numbered long
         where
@@ -154,7 +154,7 @@ module _ (look : Look) (all : DrawsAll look) (is_numbered : Bool) (noun : Noun) 
       many_from n [] = All-nil Many
       many_from n (first ∷ more) =
           All-cons Many (row_after_number is_numbered (decimal n) (fields_at marks (positions_of columns) first)) (rows_from is_numbered marks (positions_of columns) (n + 1) more)
-          (exact (row_after_number is_numbered (decimal n) (fields_at marks (positions_of columns) first)) (behind-length (decimal n) marks first)) (many_from (n + 1) more)
+          (exact (row_after_number is_numbered (decimal n) (fields_at marks (positions_of columns) first)) (after-length (decimal n) marks first)) (many_from (n + 1) more)
 
       many : All Many fields
       many = by_own names
@@ -163,7 +163,7 @@ module _ (look : Look) (all : DrawsAll look) (is_numbered : Bool) (noun : Noun) 
           by_own None = many_from 1 rows
           by_own (Some own) =
               All-cons Many (row_after_number is_numbered (number_name own) (fields_at no_marks (positions_of columns) own)) (rows_from is_numbered marks (positions_of columns) 1 rows)
-              (exact (row_after_number is_numbered (number_name own) (fields_at no_marks (positions_of columns) own)) (behind-length (number_name own) no_marks own)) (many_from 1 rows)
+              (exact (row_after_number is_numbered (number_name own) (fields_at no_marks (positions_of columns) own)) (after-length (number_name own) no_marks own)) (many_from 1 rows)
 
       by_names : (own : Option (List Text)) → All (All IsUtf8) (option_to_list own ++ rows)
           → AllZip (IsRowFor sides) (all_rows is_numbered marks (positions_of columns) own rows) (option_to_list (headed_table look is_numbered columns own).header ++ ((headed_table look is_numbered columns own).rows ++ made))
@@ -333,7 +333,7 @@ module _ (layout : Layout) (all : DrawsAll layout.look) (known : Option ℕ) (re
   lined =
       record {
         without_width = λ none. ap (λ (width : Option ℕ). look.aligns_decimals && has_room width (wanted_in look own) (rows_table look true own)) none ∙ and_true look.aligns_decimals;
-        unasked = λ no. ap (λ (b : Bool). b && has_room_for look own true) no;
+        unaligned = λ no. ap (λ (b : Bool). b && has_room_for look own true) no;
       }
     where
       and_true : (b : Bool) → (b && true) ≡ b
@@ -384,7 +384,7 @@ none_of_all MayCount is_count layout =
 
     by_kind : (is_expanded : Bool) (count : Option ℕ) → Shows None [] is_expanded count []
     by_kind true count = refl
-    by_kind false count = (layout.look.aligns_decimals, record { without_width = λ none. refl; unasked = λ no. no }, none_shown layout.look false false _ _)
+    by_kind false count = (layout.look.aligns_decimals, record { without_width = λ none. refl; unaligned = λ no. no }, none_shown layout.look false false _ _)
 
 -- the same for the output for arguments
 module _ (arguments : List Text) (context : OutputContext) (invocation : Invocation) (input : Text) (records : List (List Text)) (output : Text) (is : IsWritten false arguments context invocation input records output) where
@@ -395,12 +395,12 @@ module _ (arguments : List Text) (context : OutputContext) (invocation : Invocat
   fields_shown uncut = by_extent false arguments context invocation input records output is (ShowsRecords options records output) nothing drawn_by
     where
       all : DrawsAll options.look
-      all = record { unkept = is.unkept; table = is.kind; uncut = uncut; style = unbroken_without options.look.style (parsed_style_without_controls arguments context invocation is.is_asked) }
+      all = record { unkept = is.unkept; table = is.kind; uncut = uncut; style = unbroken_without options.look.style (parsed_style_without_controls arguments context invocation is.is_parsed) }
 
       no_fields : ShowsRecords options [] []
       no_fields =
           none_of_all (IsCount options []) (none_below options.selection.has_header)
-          (layout_with options (columns_asked options (unwrap_or (names_of options.selection.has_header []) []) (drawn_rows options.selection [])))
+          (layout_with options (columns_of_options options (unwrap_or (names_of options.selection.has_header []) []) (drawn_rows options.selection [])))
 
       nothing : records ≡ [] → output ≡ [] → ShowsRecords options records output
       nothing empty no_output = subst (λ (rs : List (List Text)). ShowsRecords options rs output) (sym empty) (subst (ShowsRecords options []) (sym no_output) no_fields)
@@ -412,6 +412,6 @@ module _ (arguments : List Text) (context : OutputContext) (invocation : Invocat
       drawn_by known rs by =
           let h = options.selection.has_header in
           let own : IsGood (names_of h rs) (drawn_rows options.selection rs) by.made.columns = all_shown (layout_with options by.made.columns) all known rs by.text output by.made.is_output (some_position options rs by.made.columns by.made.are_chosen) (are_below options rs by.made.columns by.made.are_chosen) (IsCount options records) by.counted in
-          let chosen = subst (IsGood (names_of h rs) (drawn_rows options.selection rs)) (are_asked options rs by.made.columns by.made.are_chosen) own in
-          subst (λ (names : Option (List Text)). IsGood names (drawn_rows options.selection records) (columns_asked options (unwrap_or names []) (drawn_rows options.selection records))) by.names
-          (subst (λ (rows : List (List Text)). IsGood (names_of h rs) rows (columns_asked options (unwrap_or (names_of h rs) []) rows)) by.rows chosen)
+          let chosen = subst (IsGood (names_of h rs) (drawn_rows options.selection rs)) (are_columns_chosen options rs by.made.columns by.made.are_chosen) own in
+          subst (λ (names : Option (List Text)). IsGood names (drawn_rows options.selection records) (columns_of_options options (unwrap_or names []) (drawn_rows options.selection records))) by.names
+          (subst (λ (rows : List (List Text)). IsGood (names_of h rs) rows (columns_of_options options (unwrap_or (names_of h rs) []) rows)) by.rows chosen)

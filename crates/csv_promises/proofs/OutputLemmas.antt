@@ -18,4 +18,4 @@ harmless_text text none = (visible_text text, shows_visible (suc (length text)) 
 -- the output of a call of `draw` that succeeded
 pub written_of : (T : Type 0) (x : T) (options : Options) (facts : RunFacts) → IsAfter {T = T} options (Ok x) facts → IsDrawnOf options facts.input facts.written
 written_of T x options facts (inl after) = inl (after.none_is_enough after.says.whole, after.says.output)
-written_of T x options facts (inr part) = inr (part.n, part.is_asked, part.says.output)
+written_of T x options facts (inr part) = inr (part.n, part.is_tested, part.says.output)

@@ -34,8 +34,8 @@ module _ (arguments : List Text) (context : OutputContext) (invocation : Invocat
         record {
           kind = is.kind;
           unkept = is.unkept;
-          one_column = parsed_style_is_one_column arguments context invocation is.is_asked;
-          clear = parsed_style_without_controls arguments context invocation is.is_asked;
+          one_column = parsed_style_is_one_column arguments context invocation is.is_parsed;
+          clear = parsed_style_without_controls arguments context invocation is.is_parsed;
           text = by.text;
           made = by.made.is_output;
         }

@@ -13,7 +13,7 @@ use Rattle.comfy_table.proofs.ContentLemmas.{IsClaimFor, all_zip-contents}
 use Rattle.comfy_table.proofs.PlacedWidthLemmas.{without_claims-append}
 use Rattle.comfy_table.proofs.SpreadLemmas.{IsPartOf, every-claims_beside, every-even_spread, length-even_spread}
 use Rattle.comfy_table.proofs.StepLemmas.{among_settled, among_shrunk, count_at-all_claims, level_has_room, left_by, one_others, one_unsettled, room_by, total-fixed}
-use Rattle.comfy_table.proofs.TakenClaimLemmas.{every_stands, shrunk_where}
+use Rattle.comfy_table.proofs.TakenClaimLemmas.{each_is_counted, shrunk_where}
 use Rattle.comfy_table.proofs.TakingLemmas.{every-claims_of, next_taken-where}
 use Rattle.comfy_table.proofs.UnconstrainedLemmas.{IsColumnAt, every_column_at}
 use Rattle.comfy_table.specs.Dynamic.{Claim, IsArrangedBy, IsDynamicLayout, IsLevel, IsTakenAfter, Positioned, Steps, added, all_claims, average, content_room, contents_after, even_columns, even_shares, fit_at, fixed_claims, lower_of_boundary, lower_offer, others, places_of, room_left, room_of_others, room_of_unsettled, settled_at, settled_claims, shrunk_at, shrunk_offer, total, undecided, unsettled, upper_at, without_claims}
@@ -316,7 +316,7 @@ module _ (room : ℕ) (columns : List ColumnNeeds) (keeps : AllByRecursion Keeps
       all_zip-contents HasTwo columns (all_claims room columns steps) 0 columns
       (every-both (IsColumnAt columns) (λ (p : Positioned). 0 < count_at p.0 (all_claims room columns steps)) (places_of columns) (every_column_at columns)
       (every-weaker (λ (p : Positioned). 0 < count_at p.0 (places_of columns)) (λ (p : Positioned). 0 < count_at p.0 (all_claims room columns steps)) (places_of columns)
-      (λ p stands. subst (λ (n : ℕ). 0 < n) (sym (count_at-all_claims room columns full steps widths arranged p.0)) stands) (every_stands (places_of columns))))
+      (λ p is_at. subst (λ (n : ℕ). 0 < n) (sym (count_at-all_claims room columns full steps widths arranged p.0)) is_at) (each_is_counted (places_of columns))))
       (every-append (IsClaimFor HasTwo columns) (fixed_claims (places_of columns)) (steps.lower ++ (settled_claims steps.level rest ++ (steps.shrunk ++ even_shares room columns steps))) fixed_for
       (every-append (IsClaimFor HasTwo columns) steps.lower (settled_claims steps.level rest ++ (steps.shrunk ++ even_shares room columns steps)) lower_for
       (every-append (IsClaimFor HasTwo columns) (settled_claims steps.level rest) (steps.shrunk ++ even_shares room columns steps) settled_for

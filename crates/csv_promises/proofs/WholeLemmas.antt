@@ -198,13 +198,13 @@ pub marks-shown : (own : ColumnsValue) (keeps : Bool) → keeps ≡ false → (r
 marks-shown own keeps none rows are i d found =
     by_columns own.drawn i (sym (ap (λ (seen_as : List (List Text)). slice_get (drawn_columns own seen_as) i) (ap (λ (k : Bool). map (seen k) rows) none ∙ seen_rows rows)) ∙ found)
   where
-    by_asked : (b : Bool) (p : ℕ) → column_in own rows p ≡ d → (if b then d.points else None) ≡ mark_for b own rows d.position
-    by_asked true p same = subst (λ (c : ColumnPlan). c.points ≡ (column_in own rows c.position).points) same refl
-    by_asked false p same = refl
+    by_choice : (b : Bool) (p : ℕ) → column_in own rows p ≡ d → (if b then d.points else None) ≡ mark_for b own rows d.position
+    by_choice true p same = subst (λ (c : ColumnPlan). c.points ≡ (column_in own rows c.position).points) same refl
+    by_choice false p same = refl
 
     by_columns : (ps : List ℕ) (i : ℕ) → slice_get (drawn_columns (record own { drawn = ps }) rows) i ≡ Some d → (if are then d.points else None) ≡ mark_for are own rows d.position
     by_columns [] i own_is = absurd (cc own_is)
-    by_columns (p ∷ ps) zero own_is = by_asked are p (cc own_is)
+    by_columns (p ∷ ps) zero own_is = by_choice are p (cc own_is)
     by_columns (p ∷ ps) (suc i) own_is = by_columns ps i own_is
 
 -- the columns of a table of rows
@@ -273,15 +273,15 @@ module _ (look : Look) (content : SelectedValue) (unkept : look.has_sequences �
 
   pub pairs_keep_numbers : pairs_made.header ≡ None → IsArranged pairs_made widths → (w : ℕ) → w ≤ 65535 → look.width ≡ Some w → All (KeepsNumbers look w (max 1 (slice_index widths 1))) pairs_made.rows
   pairs_keep_numbers no_header arranged w small is =
-      All-weaker (λ (row : RowValue). (cell : CellValue) → slice_get row.cells 1 ≡ Some cell → Stands cell) (KeepsNumbers look w (max 1 (slice_index widths 1)))
+      All-weaker (λ (row : RowValue). (cell : CellValue) → slice_get row.cells 1 ≡ Some cell → IsPlaced cell) (KeepsNumbers look w (max 1 (slice_index widths 1)))
       (λ row own cell found. All-weaker Line Kept kept cell.text_lines (own cell found)) pairs_made.rows
-      (found_in Stands (λ (row : RowValue). slice_get row.cells 1) pairs_made.rows (subst (All Stands) (ap (filter_map (λ (row : RowValue). slice_get row.cells 1)) rows_are) law))
+      (found_in IsPlaced (λ (row : RowValue). slice_get row.cells 1) pairs_made.rows (subst (All IsPlaced) (ap (filter_map (λ (row : RowValue). slice_get row.cells 1)) rows_are) law))
     where
       Line : Text → Type 0
       Line line = is_nowrap line ≡ true → framed_width look.style (needed_by_names (column_content_width pairs_made 0) ∷ measure line ∷ []) ≤ w → measure line ≤ slice_index widths 1
 
-      Stands : CellValue → Type 0
-      Stands cell = All Line cell.text_lines
+      IsPlaced : CellValue → Type 0
+      IsPlaced cell = All Line cell.text_lines
 
       Kept : Text → Type 0
       Kept line = is_nowrap line ≡ true → framed_width look.style (4 ∷ measure line ∷ []) ≤ w → measure line ≤ max 1 (slice_index widths 1)
@@ -294,7 +294,7 @@ module _ (look : Look) (content : SelectedValue) (unkept : look.has_sequences �
       kind : is_expanded_for look content ≡ true
       kind = ap₂ (λ (m e : Bool). not m && e) table expanded
 
-      law : All Stands (column_cells pairs_made 1)
+      law : All IsPlaced (column_cells pairs_made 1)
       law = expanded_keeps_whole w look content small is kind pairs_made widths (has, ap (λ (e : Bool). separated_table has (output_table e look content)) (sym kind)) arranged
 
       rows_are : measured_rows pairs_made ≡ pairs_made.rows

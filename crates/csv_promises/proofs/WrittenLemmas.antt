@@ -16,7 +16,7 @@ use Rattle.csv_records.specs.Beginning.{whole_lines}
 use Rattle.csv_records.specs.Reading.{AreRecordsFor}
 use Rattle.csv_tables.specs.Columns.{count_of, drawn_columns, filled_count, seen}
 use Rattle.csv_tables.specs.Drawn.{SelectedValue, count_below, drawn_rows, limited, names_of, records_below, selected_of}
-use Rattle.devices.specs.Outcome.{asked_front}
+use Rattle.devices.specs.Outcome.{tested_front}
 use Rattle.csv_promises.proofs.LineLemmas.{nothing_written}
 use Rattle.csv_promises.proofs.RecordLemmas.{AreDrawnFirst, first_are_drawn}
 use Rattle.csv_promises.specs.Counted.{EachDrawnLine, IsCount}
@@ -60,8 +60,8 @@ module _ (is_markdown : Bool) (arguments : List Text) (context : OutputContext) 
 
       by_made : IsDrawnOf options input output → Good
       by_made (inl (none, made)) = any records refl (subst (λ (rs : List (List Text)). RendersCounted options rs output) (read_is_one options.input input made.records records made.are_records is.are) made.is_output)
-      by_made (inr (n, asked, made)) =
-          let beginning = whole_lines (asked_front n input) in
+      by_made (inr (n, tested, made)) =
+          let beginning = whole_lines (tested_front n input) in
           let parts = beginning_parts n input in
           let enough = made.are_enough in
           let limit = enough.has_limit.limit in

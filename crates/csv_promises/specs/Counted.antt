@@ -46,8 +46,8 @@ abbrev pub IsWrittenFor : (Bool → Option ℕ → Text → Type 0) → Options 
 IsWrittenFor Draws options records text =
     IsDrawnWithNote Draws (IsCount options records) options.look.expansion options.selection text
 
--- a text is that of expanded records, which are counted from `number` on: a line `record 2 of 7`,
--- or `record 2`, and below it a text for the record's fields
+-- a text is that of expanded records, which are counted from `number` on. For each record it has a
+-- line `record 2 of 7`, or `record 2`, and below it a text for the fields.
 abbrev pub AreExpanded : (List Text → Text → Type 0) → Noun → Option ℕ → ℕ → List (List Text)
     → Text → Type 0
 AreExpanded Shows noun count number [] text = text ≡ []

@@ -10,7 +10,7 @@ use Rattle.comfy_parts.specs.declared.style.cell.CellAlignment.TheVariants.{Left
 use Rattle.comfy_table.specs.TableValue.{TableValue, header_and_rows, shown_columns}
 use Rattle.comfy_table.specs.Laws.{AreLinesOf}
 use Rattle.csv_records.specs.Cleaning.{cleaned, is_replaced}
-use Rattle.csv_records.specs.Decimals.{spaces_behind}
+use Rattle.csv_records.specs.Decimals.{trailing_spaces}
 use Rattle.csv_records.specs.declared.decimals.Points.{Points}
 use Rattle.csv_tables.specs.Cells.{number_name, unless_blank}
 use Rattle.csv_tables.specs.Fields.{field_or_blank}
@@ -33,7 +33,7 @@ use Rattle.promises.specs.Headline.{IsFramedTable, IsUncoloured, widest}
 -- ---- rows of fields
 
 -- a cell with this alignment holds a field: line by line, or an empty line if the field is blank.
--- It breaks at spaces
+-- The cell breaks at spaces.
 pub record HoldsField (side : CellAlignment) (field : Text) (cell : CellValue) : Type 0 where
   pub at_side : unwrap_or cell.alignment Left ≡ side
   pub texts : cell.text_lines ≡ (plain_cell (unless_blank field)).text_lines
@@ -96,14 +96,15 @@ abbrev pub widest_whole : Option ℕ → TableValue → ℕ → ℕ
 widest_whole None table i = widest table i
 widest_whole (Some width) table i = widest (record table { header = None }) i
 
--- each column that is kept whole is at least this wide, so that each of these texts is on one line
+-- each column that is kept whole is at least as wide as its widest text, so that each of its texts
+-- is on one line
 abbrev pub KeepsWhole : Look → List Bool → TableValue → (ℕ → ℕ) → Type 0
 KeepsWhole look whole table width =
     IfSome look.width (λ w. w ≤ 65535) → (i : ℕ) → i < length table.columns
     → slice_get whole i ≡ Some true → widest_whole look.width table i ≤ width i
 
--- A text has the lines of such a table. If a bold header is requested, bold surrounds pieces with
--- texts of the header and the names. `whole` lists the columns that are kept whole.
+-- A text has the lines of a table of rows of fields. If a bold header is requested, bold surrounds
+-- pieces with texts of the header and the names. `whole` lists the columns that are kept whole.
 pub record IsDrawingOf (look : Look) (has_header has_names : Bool) (sides : List CellAlignment)
     (whole : List Bool) (rows : List (List Text)) (text : Text) : Type 0 where
   pub lines : List Text
@@ -155,7 +156,7 @@ no_marks position = None
 -- marks are aligned as requested, but perhaps not under a width
 pub record AreLinedUp (look : Look) (are : Bool) : Type 0 where
   pub without_width : look.width ≡ None → are ≡ look.aligns_decimals
-  pub unasked : look.aligns_decimals ≡ false → are ≡ false
+  pub unaligned : look.aligns_decimals ≡ false → are ≡ false
 
 -- ---- whole columns
 
@@ -184,7 +185,7 @@ whole_for None expansion is_numbered positions rows =
 whole_for (Some width) expansion is_numbered positions rows =
     whole_within expansion is_numbered positions rows
 
--- so are the names and the fields of expanded records
+-- without a width, the columns of names and of fields of expanded records are kept whole too
 abbrev pub whole_pairs : Option ℕ → List Bool
 whole_pairs None = true ∷ true ∷ []
 whole_pairs (Some width) = []
@@ -194,15 +195,15 @@ whole_pairs (Some width) = []
 -- the field of a column, cleaned, with the spaces that align its decimal mark
 abbrev pub lined_up : Option Points → Text → Text
 lined_up None field = cleaned false field
-lined_up (Some points) field = cleaned false field ++ spaces (spaces_behind points field)
+lined_up (Some points) field = cleaned false field ++ spaces (trailing_spaces points field)
 
 -- a record's fields at these positions, with the marks of their columns; missing fields are empty
 abbrev pub fields_at : (ℕ → Option Points) → List ℕ → List Text → List Text
 fields_at marks positions fields =
     map (λ position. lined_up (marks position) (field_or_blank fields position)) positions
 
--- fields after the number of their record, or after the name above the numbers, if there are
--- numbers
+-- the fields of a record after its number, or the names after the name of the number column, if
+-- records are numbered
 abbrev pub row_after_number : Bool → Text → List Text → List Text
 row_after_number is_numbered number fields = if is_numbered then number ∷ fields else fields
 
@@ -222,8 +223,8 @@ all_rows is_numbered marks positions names rows =
     row_after_number is_numbered (number_name fields) (fields_at no_marks positions fields))
     (option_to_list names) ++ rows_from is_numbered marks positions 1 rows
 
--- the fields that the record has, each after the name of its column, or its column's number if it
--- has no name
+-- the fields that the record has, each after the name of its column, or after its number if the
+-- column has no name
 abbrev pub pairs_at : List Text → List ℕ → List Text → List (List Text)
 pairs_at names positions fields =
     map (λ position. cleaned false (name_at names position)
@@ -241,15 +242,15 @@ positions_by_each {A} names count words =
     flat_map (λ (word : String A). unwrap_or
     (option_map positions_between (columns_chosen names count (string_bytes word))) []) words
 
--- the positions of the columns that words choose: that of the name which they are when joined by
--- commas, or else those of each word
+-- the positions of the columns that words choose: that of the column whose name is all words joined
+-- by commas, or else those of each word
 abbrev pub positions_by : {A : Type 0} → List Text → ℕ → List (String A) → List ℕ
 positions_by names count words =
     option_map_or (λ position. positions_between (position, position + 1)) (whole_name names words)
     (positions_by_each names count words)
 
--- the columns that options choose of a header and rows, without those that they leave out. If they
--- choose none, those are drawn up to the last that has a name or a field that isn't empty.
+-- the columns that options choose of a header and rows, without those that options drop. If options
+-- choose none, all columns are drawn up to the last that has a name or a field that isn't empty.
 abbrev pub positions_in : Options → List Text → List (List Text) → List ℕ
 positions_in options names rows =
     without
@@ -259,8 +260,8 @@ positions_in options names rows =
     (positions_by names (count_of names rows) options.columns.dropped.items)
 
 -- the columns that options choose of a header and rows, and their alignments
-abbrev pub columns_asked : Options → List Text → List (List Text) → ColumnsValue
-columns_asked options names rows =
+abbrev pub columns_of_options : Options → List Text → List (List Text) → ColumnsValue
+columns_of_options options names rows =
     record {
       drawn = positions_in options names rows;
       right = positions_by names (count_of names rows) options.columns.right.items;
@@ -289,12 +290,13 @@ ShowsAllFields MayCount layout records text =
     (names_of layout.selection.has_header records) (drawn_rows layout.selection records)) MayCount
     layout.look.expansion layout.selection text
 
--- the same for the columns that options choose
+-- a text shows the columns that options choose of the rows, and of the header if there is one; or
+-- it expands the rows
 abbrev pub ShowsDrawn :
     Bool → Options → Option (List Text) → List (List Text) → Option ℕ → Text → Type 0
 ShowsDrawn is_expanded options names rows count text =
     ShowsFields is_expanded options.look options.selection
-    (columns_asked options (unwrap_or names []) rows) names rows count text
+    (columns_of_options options (unwrap_or names []) rows) names rows count text
 
 -- a text shows records: the header, if there is one, and below it as many as options select, and
 -- the note about others
@@ -304,7 +306,7 @@ ShowsRecords options records text =
     (names_of options.selection.has_header records) (drawn_rows options.selection records)) options
     records text
 
--- a field without replaced characters stays as it is
+-- cleaning doesn't change a field in UTF-8 that has no character to replace
 abbrev pub StaysAsItIs : Bool → Text → Type 0
 StaysAsItIs keeps_sequences field =
     IsUtf8 field → list_any is_replaced (chars field) ≡ false

@@ -15,8 +15,8 @@ use Rattle.csv_promises.specs.Counted.{IsCount}
 use Rattle.csv_promises.specs.Fields.{all_rows, no_marks, positions_in}
 
 -- A line has these fields. A reader splits it at its bars, except those after a backslash. In each
--- part a backslash stands for the character after it, and `<br>` for a line break. Spaces at the
--- ends of a part and of a field don't count.
+-- part a backslash means the character after it, and `<br>` means a line break. Spaces at the ends
+-- of a part and of a field don't count.
 abbrev pub HasFields : List Text → Text → Type 0
 HasFields fields line =
     map read_part (parts_between_bars (chars line))
@@ -30,8 +30,8 @@ pub record IsRule (n : ℕ) (line : Text) : Type 0 where
   pub one_for_each : (length sides ≡ n) × (length widths ≡ n)
   pub is : line ≡ rule_line sides widths
 
--- the names, which are blank if there is no header, and below them the drawn records: each with its
--- fields in the columns that options choose, and with its number if that is requested
+-- the names, which are blank if there is no header, and below them the drawn records. Each record
+-- has its fields in the columns that options choose, and its number if that is requested.
 abbrev pub names_and_rows : Options → List (List Text) → List (List Text)
 names_and_rows options records =
     all_rows options.selection.is_numbered no_marks
@@ -39,8 +39,8 @@ names_and_rows options records =
     (drawn_rows options.selection records)) (Some (names_or_none options.selection records))
     (drawn_rows options.selection records)
 
--- a text is a Markdown table of records: a line for the names, a rule, one line with the fields of
--- each drawn record, and below an empty line the note about others
+-- a text is a Markdown table of records: a line for the names, a rule, and one line with the fields
+-- of each drawn record. Below an empty line is the note about other records.
 pub record IsMarkdownTable (options : Options) (records : List (List Text)) (text : Text)
     : Type 0 where
   pub count : Option ℕ
@@ -58,8 +58,8 @@ pub record IsMarkdownTable (options : Options) (records : List (List Text)) (tex
       All (λ (fields : List Text). length fields ≡ columns) (names_and_rows options records)
   pub have_fields : AllZip HasFields (names_and_rows options records) (header ∷ lines)
 
--- the output for records is such a table, or nothing without records. No line of a field, as it is
--- written, may take more than 65535 terminal columns
+-- the output for records is a Markdown table, or nothing if there are no records. No line of a
+-- field, as it is written, may take more than 65535 terminal columns
 abbrev pub IsWrittenAsMarkdown : Options → List (List Text) → Text → Type 0
 IsWrittenAsMarkdown options records text =
     EachText (λ line. measure line ≤ 65535) options.look records

@@ -37,7 +37,7 @@ FieldsFitTheirColumns options records =
     (known : Option ℕ) (columns : ColumnsValue) → columns_for options records ≡ Ok columns
     → CharactersFitEachWidth known (layout_with options columns) records
 
--- in this case the output for the records is straight
+-- if characters have room in their columns, the output for the records is straight
 abbrev pub IsStraightWhereFieldsFit : Options → List (List Text) → Text → Type 0
 IsStraightWhereFieldsFit options records text =
     FieldsFitTheirColumns options records → IsStraight options records text

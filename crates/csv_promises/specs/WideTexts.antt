@@ -6,8 +6,8 @@ use Rattle.comfy_parts.specs.Text.{Text}
 use Rattle.promises.specs.Tables.{HasCharactersWithin}
 use Rattle.csv_promises.specs.Straight.{EachField}
 
--- each character of a field takes at most two terminal columns, as all do except U+17D8, and none
--- is U+FE01 or U+FE0E, which change the width of the character before them
+-- each character of a field takes at most two terminal columns, as all do except U+17D8. None is
+-- U+FE01 or U+FE0E, which change the width of the character before them.
 pub record IsOfTwoColumns (field : Text) : Type 0 where
   pub characters : HasCharactersWithin 2 field
   pub no_selector : list_any (λ c. c == 0xFE0E) (chars field) ≡ false

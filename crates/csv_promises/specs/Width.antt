@@ -48,8 +48,8 @@ framed_columns_in layout records =
     columns_by layout.look.expansion
     (not (length (drawn_rows layout.selection records) == 0)) (columns_in layout)
 
--- a line shows at most as many terminal columns as the width or the frame has, and exactly those of
--- the width if it is filled and has room for the frame
+-- a line shows at most as many terminal columns as the greater of width and frame. It shows exactly
+-- as many as the width, if the width is filled and has room for the frame.
 pub record KeepsTo (width frame : ℕ) (is_filled : Bool) (line : Text) : Type 0 where
   pub columns : ℕ
   pub shows : ShowsColumns columns line
@@ -64,7 +64,8 @@ KeepsItsWidth options records text =
     → EachDrawnLine (KeepsTo width (frame_room (framed_columns options records))
     options.look.fills_width) options records text
 
--- it is straight, for characters of two terminal columns
+-- the output for records is straight, if each character takes at most two terminal columns and the
+-- width has room for two in each column
 abbrev pub IsStraightWhereTwoFit : Options → List (List Text) → Text → Type 0
 IsStraightWhereTwoFit options records text =
     EachField IsOfTwoColumns records

@@ -13,7 +13,7 @@ use Rattle.csv_command.specs.Drawn.{IsDrawnOf}
 pub record IsWritten (is_markdown : Bool) (arguments : List Text) (context : OutputContext)
     (invocation : Invocation) (input : Text) (records : List (List Text)) (output : Text)
     : Type 0 where
-  pub is_asked : IsParsed arguments context invocation
+  pub is_parsed : IsParsed arguments context invocation
   pub unkept : invocation.options.look.has_sequences ≡ false
   pub kind : invocation.options.look.is_markdown ≡ is_markdown
   pub are : AreRecordsFor invocation.options.input input records

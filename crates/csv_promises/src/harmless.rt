@@ -9,15 +9,17 @@ use csv_command::{CsvError, Invocation, Options, OutputContext, Refusal, draw, p
 use devices::{MemorySink, MemorySource};
 use std::alloc::Global;
 
-/// Returns the parsed arguments, and the output of the program for them and these bytes of a file.
-/// Whatever the bytes and the terminal are, the output has only characters, line ends, and the
-/// sequences that begin and end bold. Without a bold header it has no sequence. With `--ansi` it
-/// may have any sequence for colours and attributes, but none is open at the end of a line. Line
-/// feeds are the only control characters of its visible text, and no character of this text turns
-/// the direction of text.
+/// Returns the parsed arguments, and the output of `csvtable` for these arguments and a file with
+/// the bytes `input`. The promise holds for all bytes and every terminal. The visible text is the
+/// output without sequences for colours and attributes. Line feeds are the only control characters
+/// of the visible text, and no character of it turns the direction of text.
 ///
-/// Returns `None` if the arguments request no drawing, if the bytes can't be drawn, or if memory
-/// runs out.
+/// The only sequences begin and end bold, and there are none without a bold header. With `--ansi`
+/// the output may have any sequence for colours and attributes, but none is open at the end of a
+/// line.
+///
+/// Returns `None` if the arguments request no drawing, if the input can't be drawn, if the output
+/// has more than `room` bytes, or if memory runs out.
 pub fn harmless_output(
     alloc: Global,
     arguments: &[&str],
@@ -32,11 +34,11 @@ pub fn harmless_output(
     Some((invocation, sink))
 }
 
-/// Returns the drawing that a caller gets as a value for these arguments and these bytes, for no
-/// terminal. Its visible text is without sequences for colours and attributes. Line feeds are the
-/// only control characters of this text, and no character of it turns the direction of text.
+/// Returns the drawing that `render_csv` returns for these arguments and this input. The visible
+/// text is the drawing without sequences for colours and attributes. Line feeds are the only
+/// control characters of the visible text, and no character of it turns the direction of text.
 ///
-/// Returns `None` if the arguments request no drawing, if the bytes can't be drawn, or if memory
+/// Returns `None` if the arguments request no drawing, if the input can't be drawn, or if memory
 /// runs out.
 pub fn harmless_drawing(alloc: Global, arguments: &[&str], input: &[u8]) -> Option<String>
     ensures { IfSome result (λ drawing. ShowsNothingHarmful (string_bytes drawing)) }
@@ -44,11 +46,12 @@ pub fn harmless_drawing(alloc: Global, arguments: &[&str], input: &[u8]) -> Opti
     render_csv(alloc, arguments, input).ok()
 }
 
-/// Returns the line that `csvtable` writes on standard error if these bytes can't be drawn as these
-/// arguments request. Whatever the bytes, the names in them and the name of the file are, the line
-/// feed at its end is its only control character, and no character turns the direction of text.
+/// Returns the line that `csvtable` writes on standard error if the input can't be drawn as the
+/// arguments request. Whatever the input, the names in it and the name of the file are, the line
+/// has a single control character: the line feed at its end. No character of the line turns the
+/// direction of text.
 ///
-/// Returns `None` if the bytes can be drawn, if the arguments request no drawing, or if memory runs
+/// Returns `None` if the input can be drawn, if the arguments request no drawing, or if memory runs
 /// out.
 pub fn harmless_message(alloc: Global, arguments: &[&str], input: &[u8]) -> Option<String>
     ensures { IfSome result (λ message. IsTameLine (string_bytes message)) }
@@ -59,7 +62,8 @@ pub fn harmless_message(alloc: Global, arguments: &[&str], input: &[u8]) -> Opti
     }
 }
 
-/// Returns a sink that holds the output for an input.
+/// Returns a sink in memory that holds the output for an input. The error is `CsvError::Write` if
+/// the output has more than `room` bytes.
 pub(crate) fn output_for(
     alloc: Global,
     input: &[u8],

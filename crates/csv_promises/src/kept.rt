@@ -9,30 +9,35 @@ use csv_records::Records;
 use devices::MemorySink;
 use std::alloc::Global;
 
-/// Returns the parsed arguments, the records of a file's bytes, and the output of the program for
-/// them, under every width and for every script. The output is a table in the requested style: the
-/// header, if there is one, and below it one row for each drawn record. Each cleaned field is alone
-/// in its column, between spaces. It is whole, or in slices that end at the ends of wrapped lines
-/// and leave out only spaces. If records are expanded, each one is such a table of names and
-/// fields, below a line with its number. If the header is bold, the sequences that begin and end
-/// bold are in its pieces, or in those of the names. If not all records are drawn, a line below
-/// them counts them.
+/// Returns the parsed arguments, the records of a file with the bytes `input`, and the output of
+/// `csvtable` for this file. The promise holds under every width and for every script. The output
+/// is a table in the requested style: the header, if there is one, and below it one row for each
+/// drawn record. Each field is cleaned: control characters, and characters that turn the direction
+/// of text, are replaced. The cleaned field is alone in its column, between spaces. It is whole, or
+/// in slices that end at the ends of wrapped lines and leave out only spaces. If records are
+/// expanded, each record is such a table of its names and fields, below a line with its number. If
+/// the header is bold, the sequences that begin and end bold are in the pieces of the header, or of
+/// the names of expanded records. If not all records are drawn, a line below the table counts the
+/// records.
 ///
-/// A column is right-aligned if all of its drawn fields are numbers or neutral, and one is a
-/// number. `--right` and `--left` override this. In a right-aligned column with a decimal mark,
-/// spaces after shorter fractions align the marks, unless `--no-decimal` is given. Under a width,
-/// marks may be left unaligned. The fields of expanded records are left-aligned.
+/// A column is right-aligned if each of its drawn fields is a number or neutral, such as `n/a`, and
+/// at least one is a number. `--right` and `--left` override this. In a right-aligned column with a
+/// decimal mark, spaces after shorter fractions put the marks below each other, unless
+/// `--no-decimal` is given. This may be left out if a width is set. The fields of expanded records
+/// are left-aligned.
 ///
-/// Under `--expanded auto` no number and no date is split over lines, if records aren't expanded. A
-/// column is at least as wide as its widest field if all of its fields are neutral, numbers or
-/// dates of at most 25 characters, or time stamps of at most 35. So is the column of record
-/// numbers. Without a width, every column is at least as wide as its widest text, including the
-/// header, also if records are expanded. A text of more than 65535 terminal columns counts as one
-/// of 65535. In an expanded record a number or date isn't split if the width has room for it beside
-/// borders, paddings and four terminal columns for names.
+/// Under `--expanded auto`, fields of columns of numbers and dates aren't split over lines, if
+/// records aren't expanded. In such a column each field is neutral, a number or date of at most 25
+/// characters, or a time stamp of at most 35. The column is at least as wide as its widest field.
+/// The column of record numbers is at least as wide as its widest number. If no width is set, every
+/// column is at least as wide as its widest text, including the header, also if records are
+/// expanded. A text of more than 65535 terminal columns counts as a text of 65535. In an expanded
+/// record a number or date isn't split if the width has room for it beside borders, paddings and
+/// four terminal columns for names.
 ///
-/// Returns `None` if the arguments request `--ansi`, Markdown, a greatest height or no drawing, if
-/// the whole input can't be read or drawn, or if memory runs out.
+/// Returns `None` if the arguments request `--ansi`, Markdown, a greatest height or no drawing.
+/// Also returns `None` if the whole input can't be read or drawn, if the output has more than
+/// `room` bytes, or if memory runs out.
 pub fn output_with_all_fields(
     alloc: Global,
     arguments: &[&str],
@@ -49,8 +54,8 @@ pub fn output_with_all_fields(
     Some((invocation, records, sink))
 }
 
-/// A field without characters to replace stays as it is when it is cleaned. Control characters are
-/// replaced, and characters that turn the direction of text.
+/// Cleaning leaves a field in UTF-8 unchanged, if the field has no control character and no
+/// character that turns the direction of text. Cleaning replaces only such characters.
 pub fn plain_fields_stay()
     ensures { (keeps_sequences : Bool) (field : List ℕ) → StaysAsItIs keeps_sequences field }
 {}

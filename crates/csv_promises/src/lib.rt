@@ -1,6 +1,6 @@
-//! Promises to users of `csvtable`, in their words. Each function calls the library as the program
-//! does, and its one clause is about the result of the call. A reader needs to trust only the
-//! definitions of this clause.
+//! Promises to users of `csvtable`, in the words of a user. Each function calls the library as the
+//! program does, and its one clause is about the result of the call. A reader needs to trust only
+//! the definitions of this clause.
 #![tactic(auto)]
 
 pub mod harmless;

@@ -9,15 +9,17 @@ use csv_records::Records;
 use devices::MemorySink;
 use std::alloc::Global;
 
-/// Returns the parsed arguments, the records of a file's bytes, and the output of the program for
-/// them as Markdown: a line for the names, a rule with a part for each column, and one line for
-/// each drawn record. A reader splits a line at its bars, and reads backslashes and `<br>`. The
-/// line then gives back its cleaned fields, without the spaces at their ends. If not all records
-/// are drawn, a line below an empty one counts them.
+/// Returns the parsed arguments, the records of a file with the bytes `input`, and the output of
+/// `csvtable` for this file as Markdown. The output has a line for the names, a rule with a part
+/// for each column, and one line for each drawn record. A reader of a line splits it at its bars. A
+/// backslash means the character after it, and `<br>` means a line break. The reader then gets the
+/// cleaned fields of the record, without the spaces at their ends. If not all records are drawn, an
+/// empty line and a line that counts the records follow.
 ///
-/// This holds if no line of a field, as it is written, takes more than 65535 terminal columns.
-/// Returns `None` unless the arguments request `--markdown` without `--ansi`, and also if the whole
-/// input can't be read or drawn, or if memory runs out.
+/// The promise requires that no line of a field, as it is written, takes more than 65535 terminal
+/// columns. Returns `None` unless the arguments request `--markdown` without `--ansi`. Also returns
+/// `None` if the whole input can't be read or drawn, if the output has more than `room` bytes, or
+/// if memory runs out.
 pub fn markdown_output(
     alloc: Global,
     arguments: &[&str],

@@ -1,4 +1,4 @@
-//! Straight edges.
+//! Straight edges: all lines show the same number of terminal columns.
 
 ghost use Rattle.std.specs.Prelude.{IfOk, IfSome, map};
 ghost use Rattle.csv_records.specs.Reading.{AreRecordsFor};
@@ -13,14 +13,15 @@ use csv_records::{Records, decoded, read_records};
 use devices::MemorySink;
 use std::alloc::Global;
 
-/// Returns the parsed arguments, the records of a file's bytes, and the output of the program for
-/// them. All lines of the output show the same number of terminal columns, except those that count
-/// records. This holds under every width and height, with a bold header, and if records are
-/// expanded.
+/// Returns the parsed arguments, the records of a file with the bytes `input`, and the output of
+/// `csvtable` for this file. All lines of the output show the same number of terminal columns,
+/// except those that count records. This holds under every width and height, with a bold header,
+/// and if records are expanded.
 ///
-/// It holds if each character of each field takes at most one terminal column, and none is U+FE01.
-/// Returns `None` if the arguments request `--ansi`, Markdown or no drawing, if the whole input
-/// can't be read or drawn, or if memory runs out.
+/// The promise requires that each character of each field takes at most one terminal column, and
+/// none is U+FE01. Returns `None` if the arguments request `--ansi`, Markdown or no drawing. Also
+/// returns `None` if the whole input can't be read or drawn, if the output has more than `room`
+/// bytes, or if memory runs out.
 pub fn straight_output(
     alloc: Global,
     arguments: &[&str],
@@ -36,11 +37,13 @@ pub fn straight_output(
     Some((parsed, records, sink))
 }
 
-/// Like `straight_output`, for texts of every script.
+/// Returns the arguments, the records and the output that `straight_output` returns, or `None` if
+/// it returns `None`. All lines of the output show the same number of terminal columns, except
+/// those that count records. This promise is for texts of every script.
 ///
-/// This holds if each character of each drawn field and name has room in its column, and U+FE01 is
-/// nowhere directly next to U+FE0E or U+FE0F. A character takes at most two terminal columns,
-/// except U+17D8, which takes three.
+/// The promise requires that each character of each drawn field and name has room in its column. It
+/// also requires that U+FE01 is nowhere directly next to U+FE0E or U+FE0F. A character takes at
+/// most two terminal columns, except U+17D8, which takes three.
 pub fn straight_fitting_output(
     alloc: Global,
     arguments: &[&str],
@@ -51,16 +54,20 @@ pub fn straight_fitting_output(
     ensures { IfSome result (λ drawn.
         IsStraightWhereFieldsFit drawn.0.options drawn.1 drawn.2.bytes) }
 {
-    let (asked, records, sink) = written(alloc, arguments, context, input, room, false)?;
-    Some((asked, records, sink))
+    let (chosen, records, sink) = written(alloc, arguments, context, input, room, false)?;
+    Some((chosen, records, sink))
 }
 
-/// Like `straight_output`, for texts of every script, under a width that has room.
+/// Returns the arguments, the records and the output that `straight_output` returns, or `None` if
+/// it returns `None`. All lines of the output show the same number of terminal columns, except
+/// those that count records. This promise is for texts of every script, and for a width that has
+/// room for their characters.
 ///
-/// This holds if each character of each field takes at most two terminal columns, as all do except
-/// U+17D8, and none is U+FE01 or U+FE0E. The width must be at least 1 + 5 n, for a frame around n
-/// columns. There are two if records are always expanded, or may be expanded and one is drawn.
-/// Otherwise these are all drawn columns.
+/// The promise requires that each character of each field takes at most two terminal columns, as
+/// every character except U+17D8 does. No character may be U+FE01 or U+FE0E. The width must be at
+/// least 1 + 5 n terminal columns. Here n is 2 if records are always expanded, or if they may be
+/// expanded and a record is drawn. Otherwise n is the number of drawn columns, including that of
+/// record numbers.
 pub fn straight_wide_output(
     alloc: Global,
     arguments: &[&str],
@@ -75,11 +82,14 @@ pub fn straight_wide_output(
     Some((wanted, records, sink))
 }
 
-/// Like `straight_output`, for texts of every script. Also returns `None` under a width and under
-/// `-m`.
+/// Returns the arguments, the records and the output that `straight_output` returns. All lines of
+/// the output show the same number of terminal columns, except those that count records. This
+/// promise is for texts of every script, without a width. Returns `None` if `straight_output`
+/// returns `None`, if the arguments or the terminal set a width, or if the arguments have `-m`.
 ///
-/// This holds if each field takes at most 65535 terminal columns, and is drawn as it is: it has no
-/// control character, and no character that turns the direction of text.
+/// The promise requires that each field takes at most 65535 terminal columns, and that cleaning
+/// doesn't change it. Such a field has no control character, and no character that turns the
+/// direction of text.
 pub fn straight_whole_output(
     alloc: Global,
     arguments: &[&str],
@@ -97,9 +107,9 @@ pub fn straight_whole_output(
     Some((invocation, records, sink))
 }
 
-// Returns the parsed arguments, the records of an input, and the output for both, for Markdown or
-// not. Returns `None` if fields keep their sequences, if the arguments request the other kind of
-// output, and after any error.
+// Returns the parsed arguments, the records of an input, and the output for both, which is for
+// Markdown if `is_markdown` is true. Returns `None` if fields keep their SGR sequences, if the
+// arguments request the other kind of output, and after any error.
 pub(crate) fn written(
     alloc: Global,
     arguments: &[&str],
@@ -122,7 +132,7 @@ pub(crate) fn written(
     Some((invocation, records, sink))
 }
 
-// The records of an input.
+// The records of an input, read with these options.
 fn records_for(alloc: Global, input: &[u8], options: &Options) -> Result<Records, CsvError>
     ensures { IfOk result (λ records. AreRecordsFor options.now.input input.now records) }
 {

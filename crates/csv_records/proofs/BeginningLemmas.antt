@@ -243,7 +243,7 @@ module _ (rest : Text) where
       by_line : LineStays text → ((t : Text) → EndsWithLine t → (below_lines count t ≡ []) ⊎ LinesStay count t) → (below_lines (suc count) text ≡ []) ⊎ LinesStay (suc count) text
       by_line line later = by_ends line later line.ends
 
-  -- so does a byte-order mark at the front
+  -- if a text goes on, a byte-order mark at its start stays
   record MarkStays (text : Text) : Type 0 where
     rest_of : strip_bom (text ++ rest) ≡ strip_bom text ++ rest
     ends : EndsWithLine (strip_bom text)
@@ -358,14 +358,14 @@ ends_below skip input (front, is) = by_front (lines-EndsIn skip input)
     by_front (above, parts) = (above ++ front, parts ∙ ap (λ (t : Text). above ++ t) is ∙ sym (append_assoc above front (0x0A ∷ [])))
 
 -- an input that goes on is in the same encoding
-same_encoding : (e : Option Encoding) (beginning behind : Text) → encoding_of e beginning ≢ Utf16 → EndsWithLine beginning → encoding_of e (beginning ++ behind) ≡ encoding_of e beginning
-same_encoding (Some e) beginning behind known ends = refl
-same_encoding None [] behind known (front, ends) = absurd (none front ends)
+same_encoding : (e : Option Encoding) (beginning after : Text) → encoding_of e beginning ≢ Utf16 → EndsWithLine beginning → encoding_of e (beginning ++ after) ≡ encoding_of e beginning
+same_encoding (Some e) beginning after known ends = refl
+same_encoding None [] after known (front, ends) = absurd (none front ends)
   where
     none : (f : Text) → [] ≡ f ++ 0x0A ∷ [] → ⊥
     none [] e = cc e
     none (x ∷ xs) e = cc e
-same_encoding None (a ∷ []) behind known (front, ends) = by_feed (feed front ends) behind
+same_encoding None (a ∷ []) after known (front, ends) = by_feed (feed front ends) after
   where
     none : (f : Text) → [] ≡ f ++ 0x0A ∷ [] → ⊥
     none [] e = cc e
@@ -378,35 +378,35 @@ same_encoding None (a ∷ []) behind known (front, ends) = by_feed (feed front e
     by_feed : a ≡ 0x0A → (more : Text) → encoding_of None (a ∷ more) ≡ Utf8
     by_feed e [] = refl
     by_feed e (b ∷ more) = rw e refl
-same_encoding None (a ∷ b ∷ beginning) behind known ends = refl
+same_encoding None (a ∷ b ∷ beginning) after known ends = refl
 
 encoded_both : (cs ds : List ℕ) → encode_utf8_all (cs ++ ds) ≡ encode_utf8_all cs ++ encode_utf8_all ds
 encoded_both [] ds = refl
 encoded_both (c ∷ cs) ds = grind (arith, append_assoc, encoded_both cs ds)
 
--- the text below its lines goes on
-below_stays : (skip : ℕ) (beginning behind : Text) → EndsWithLine (below_lines skip beginning) → below_lines skip (beginning ++ behind) ≡ below_lines skip beginning ++ behind
-below_stays skip beginning behind ends = by_lines (lines_stay behind skip beginning (ends_below skip beginning ends)) ends
+-- if an input goes on, the text below its first `skip` lines goes on
+below_stays : (skip : ℕ) (beginning after : Text) → EndsWithLine (below_lines skip beginning) → below_lines skip (beginning ++ after) ≡ below_lines skip beginning ++ after
+below_stays skip beginning after ends = by_lines (lines_stay after skip beginning (ends_below skip beginning ends)) ends
   where
     nothing : (f : Text) → [] ≡ f ++ 0x0A ∷ [] → ⊥
     nothing [] e = cc e
     nothing (x ∷ xs) e = cc e
 
-    by_lines : (below_lines skip beginning ≡ []) ⊎ LinesStay behind skip beginning → EndsWithLine (below_lines skip beginning) → below_lines skip (beginning ++ behind) ≡ below_lines skip beginning ++ behind
+    by_lines : (below_lines skip beginning ≡ []) ⊎ LinesStay after skip beginning → EndsWithLine (below_lines skip beginning) → below_lines skip (beginning ++ after) ≡ below_lines skip beginning ++ after
     by_lines (inl none) (front, is) = absurd (nothing front (sym none ∙ is))
     by_lines (inr stay) some = stay.below
 
--- its decoded text goes on
-text_stays : (e : Encoding) (skip : ℕ) (beginning behind text whole : Text) → e ≢ Utf16 → EndsWithLine (below_lines skip beginning) → IsDecoded e skip beginning text → IsDecoded e skip (beginning ++ behind) whole → (more : Text) × (whole ≡ text ++ more)
-text_stays Utf8 skip beginning behind text whole known ends is also = grind (arith, below_stays)
-text_stays Cp1252 skip beginning behind text whole known ends is also = grind (arith, below_stays, map-append, encoded_both)
-text_stays Utf16 skip beginning behind text whole known ends is also = absurd (known refl)
+-- if an input goes on, its decoded text goes on
+text_stays : (e : Encoding) (skip : ℕ) (beginning after text whole : Text) → e ≢ Utf16 → EndsWithLine (below_lines skip beginning) → IsDecoded e skip beginning text → IsDecoded e skip (beginning ++ after) whole → (more : Text) × (whole ≡ text ++ more)
+text_stays Utf8 skip beginning after text whole known ends is also = grind (arith, below_stays)
+text_stays Cp1252 skip beginning after text whole known ends is also = grind (arith, below_stays, map-append, encoded_both)
+text_stays Utf16 skip beginning after text whole known ends is also = absurd (known refl)
 
 feed_alone : encode_utf8_all (0x0A ∷ []) ≡ 0x0A ∷ []
 unfolding lib.Utf8.encode
 feed_alone = refl
 
--- its decoded text ends with a line feed
+-- the decoded text of an input ends with a line feed, if the text below its first `skip` lines does
 text_ends : (e : Encoding) (skip : ℕ) (beginning text : Text) → e ≢ Utf16 → EndsWithLine (below_lines skip beginning) → IsDecoded e skip beginning text → EndsWithLine text
 text_ends Utf8 skip beginning text known ends is = subst EndsWithLine (sym is.1) ends
 text_ends Cp1252 skip beginning text known (front, ends) is = grind (arith, map-append, encoded_both, feed_alone)
@@ -452,11 +452,11 @@ unmarked_nothing : strip_bom [] ≡ []
 unfolding strip_bom
 unmarked_nothing = refl
 
-pub first_records_stay : (options : InputOptions) (most : ℕ) (beginning behind : Text) (records all : List (List Text)) → FirstRecordsStay options most beginning behind records all
-first_records_stay options most beginning behind records all enough known =
+pub first_records_stay : (options : InputOptions) (most : ℕ) (beginning after : Text) (records all : List (List Text)) → FirstRecordsStay options most beginning after records all
+first_records_stay options most beginning after records all enough known =
     let e = encoding_of options.encoding beginning in
-    let same = same_encoding options.encoding beginning behind enough.no_utf16 (ends_below options.skip beginning enough.ends) in
-    by_text (text_stays e options.skip beginning behind enough.text known.text enough.no_utf16 enough.ends enough.is_text.is_decoded (subst (λ (e : Encoding). IsDecoded e options.skip (beginning ++ behind) known.text) same known.is_text.is_decoded))
+    let same = same_encoding options.encoding beginning after enough.no_utf16 (ends_below options.skip beginning enough.ends) in
+    by_text (text_stays e options.skip beginning after enough.text known.text enough.no_utf16 enough.ends enough.is_text.is_decoded (subst (λ (e : Encoding). IsDecoded e options.skip (beginning ++ after) known.text) same known.is_text.is_decoded))
     (text_ends e options.skip beginning enough.text enough.no_utf16 enough.ends enough.is_text.is_decoded)
   where
     d : Delimiter

@@ -65,8 +65,8 @@ module _ (agree : ℕ → ℕ) where
       others_most n o all first = grind (arith, all, some, first, nat_tests)
 
       by_first : (v : Bool) → is_best m d ≡ v → (most_of ds ≡ m → is_some (find (is_best m) ds) ≡ true) → is_some (if v then Some d else find (is_best m) ds) ≡ true
-      by_first true first behind = refl
-      by_first false first behind = behind (others_most (agree d) (most_of ds) is first)
+      by_first true first after = refl
+      by_first false first after = after (others_most (agree d) (most_of ds) is first)
 
   -- one more delimiter is the best if it agrees more than all before it
   pub better : (ds : List ℕ) (d : ℕ) → most_of ds < agree d → best_delimiter agree (ds ++ d ∷ []) ≡ d

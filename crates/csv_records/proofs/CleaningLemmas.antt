@@ -142,7 +142,7 @@ module _ (kept : Bool) where
         written = λ c after. (refl, refl);
       }
 
-  -- such a text is drawn as it is
+  -- a text whose pieces are written as they are is drawn as it is
   pub stays_cleaned : (text : Text) → Stays kept text → cleaned kept text ≡ text
   stays_cleaned text stays =
       ap (λ (ps : List Part). (fold after_piece start ps).text) whole ∙ (stays.written start refl).0
@@ -163,7 +163,7 @@ pub harmless_so : (kept : Bool) (field : Text) → IsUtf8 field → list_any is_
 harmless_so kept field utf8 none =
     sym (stays_cleaned kept field (subst (Stays kept) (encodes-chars field utf8) (Stays-characters kept (chars field) (scalars-chars field utf8) none)))
 
--- so is a field without replaced characters
+-- a field without replaced characters is drawn as it is
 pub drawn_so : (kept : Bool) (field : Text) → IsUtf8 field → list_any is_replaced (chars field) ≡ false → field ≡ cleaned kept field
 drawn_so kept field utf8 none = harmless_so kept field utf8 (none_harmful (chars field) none)
 

@@ -10,7 +10,7 @@ use Rattle.csv.specs.declared.parser.Action.TheVariants as act
 use Rattle.csv.specs.declared.parser.Config.{Config}
 use Rattle.csv.specs.declared.parser.State.{State}
 use Rattle.csv.specs.declared.parser.State.TheVariants as st
-use Rattle.csv_records.specs.Counting.{count_behind, count_from, state_at, after_action}
+use Rattle.csv_records.specs.Counting.{count_after, count_from, state_at, after_action}
 use Rattle.csv_records.specs.Counting as own_step
 use Rattle.csv_records.specs.Input.{config_for}
 use Rattle.csv_records.specs.Longer.{skip_record}
@@ -28,12 +28,12 @@ module _ (cfg : Config) (s : State) (n b : ℕ) (rest : Text) where
   -- the record goes on after the byte
   pub goes_on : (next : State × Bool) → Some next ≡ own_step.step cfg s b → count_from cfg s n (b ∷ rest) ≡ count_from cfg next.0 (n + (if next.1 then 1 else 0)) rest
   unfolding count_from
-  goes_on next is = ap (count_behind (λ state count. count_from cfg state count rest) n rest) (sym is)
+  goes_on next is = ap (count_after (λ state count. count_from cfg state count rest) n rest) (sym is)
 
   -- the record ends at the byte
   pub ends_there : None ≡ own_step.step cfg s b → count_from cfg s n (b ∷ rest) ≡ Some (n, rest)
   unfolding count_from
-  ends_there is = ap (count_behind (λ state count. count_from cfg state count rest) n rest) (sym is)
+  ends_there is = ap (count_after (λ state count. count_from cfg state count rest) n rest) (sym is)
 
 -- the end of the text ends a record that has begun
 pub ends_with_text : (cfg : Config) (s : OwnState) (n : ℕ) (text : Text) → length text ≡ 0 → s ≢ own.StartRecord → count_from cfg (state_at s) n text ≡ Some (n, text)
@@ -70,15 +70,15 @@ counted cfg s fields field (b ∷ rest) = by_action (step cfg s b).1 (λ fields 
 
     by_action : (a : Action) → ((fields : List Text) (field : Text) → option_map count_of (next_record cfg to fields field rest) ≡ count_from cfg to (length fields + 1) rest)
         → option_map count_of (if is_end a then Some (fields_after a fields field, to, rest) else next_record cfg to (fields_after a fields field) (field_after a b field) rest)
-        ≡ count_behind (λ state count. count_from cfg state count rest) (length fields + 1) rest (after_action a to)
+        ≡ count_after (λ state count. count_from cfg state count rest) (length fields + 1) rest (after_action a to)
     by_action act.EndRecord more = ap (λ (n : ℕ). Some (n, rest)) (length-append fields (field ∷ []))
     by_action act.EndField more = more (fields ++ (field ∷ [])) [] ∙ ap (λ (n : ℕ). count_from cfg to (n + 1) rest) (length-append fields (field ∷ []))
     by_action act.Skip more = more fields field ∙ ap (λ (n : ℕ). count_from cfg to n rest) (sym (add-zero (length fields + 1)))
     by_action act.Copy more = more fields (field ++ (b ∷ [])) ∙ ap (λ (n : ℕ). count_from cfg to n rest) (sym (add-zero (length fields + 1)))
 
 -- the text after a record that is counted
-pub behind_counted : (cfg : Config) (text : Text) (found : Option (ℕ × Text)) → found ≡ count_from cfg st.StartRecord 1 text → option_map_or (λ it. it.1) found [] ≡ skip_record cfg text
-behind_counted cfg text found is = ap (λ (o : Option (ℕ × Text)). option_map_or (λ it. it.1) o []) (is ∙ sym (counted cfg st.StartRecord [] [] text)) ∙ by_next (next_record cfg st.StartRecord [] [] text)
+pub after_counted : (cfg : Config) (text : Text) (found : Option (ℕ × Text)) → found ≡ count_from cfg st.StartRecord 1 text → option_map_or (λ it. it.1) found [] ≡ skip_record cfg text
+after_counted cfg text found is = ap (λ (o : Option (ℕ × Text)). option_map_or (λ it. it.1) o []) (is ∙ sym (counted cfg st.StartRecord [] [] text)) ∙ by_next (next_record cfg st.StartRecord [] [] text)
   where
     by_next : (next : Option FoundRecord) → option_map_or (λ it. it.1) (option_map count_of next) [] ≡ option_map_or (λ it. it.2) next []
     by_next None = refl
@@ -190,18 +190,18 @@ module _ (delimiter : ℕ) (has_quotes : Bool) where
   no_turns text = refl
 
   -- the next record is counted
-  pub one_counted : (n : ℕ) (text : Text) (count : ℕ) (behind : Text) → Some (count, behind) ≡ count_from own_cfg st.StartRecord 1 text → counts_left (suc n) text ≡ count ∷ counts_left n behind
+  pub one_counted : (n : ℕ) (text : Text) (count : ℕ) (after : Text) → Some (count, after) ≡ count_from own_cfg st.StartRecord 1 text → counts_left (suc n) text ≡ count ∷ counts_left n after
   unfolding records_from
-  one_counted n text count behind is = by_next (next_record own_cfg st.StartRecord [] [] text) (next_between st.StartRecord [] [] text) (counted own_cfg st.StartRecord [] [] text ∙ sym is)
+  one_counted n text count after is = by_next (next_record own_cfg st.StartRecord [] [] text) (next_between st.StartRecord [] [] text) (counted own_cfg st.StartRecord [] [] text ∙ sym is)
     where
       lengths : List (List Text) → List ℕ
       lengths records = map (λ (fields : List Text). length fields) records
 
-      by_next : (next : Option FoundRecord) → IfSome next (λ found. IsBetween found.1) → option_map count_of next ≡ Some (count, behind) → lengths (records_next (records_from own_cfg n) next) ≡ count ∷ counts_left n behind
+      by_next : (next : Option FoundRecord) → IfSome next (λ found. IsBetween found.1) → option_map count_of next ≡ Some (count, after) → lengths (records_next (records_from own_cfg n) next) ≡ count ∷ counts_left n after
       by_next None between same = absurd (cc same)
       by_next (Some found) between same =
-          let size : length found.0 ≡ count = ap (λ (o : Option (ℕ × Text)). (unwrap_or o (count, behind)).0) same in
-          let rest : found.2 ≡ behind = ap (λ (o : Option (ℕ × Text)). (unwrap_or o (count, behind)).1) same in
+          let size : length found.0 ≡ count = ap (λ (o : Option (ℕ × Text)). (unwrap_or o (count, after)).0) same in
+          let rest : found.2 ≡ after = ap (λ (o : Option (ℕ × Text)). (unwrap_or o (count, after)).1) same in
           rw (all_alike n found.1 found.2 between, size, rest) refl
 
   -- no record is left

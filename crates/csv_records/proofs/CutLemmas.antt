@@ -15,7 +15,7 @@ places_more start (m ∷ ns) n =
     let moved : start + m + total ns ≡ start + total (m ∷ ns) = omega (arith, sum_by-cons (λ n. n) m ns) in
     ap (λ places. record { start = start; end = start + m } ∷ places) (places_more (start + m) ns n ∙ ap (λ (a : ℕ). places_for (start + m) ns ++ record { start = a; end = a + n } ∷ []) moved)
 
--- the same in a loop over counts, with the fields before it
+-- the places of the first i + 1 records are those of the first i records, and one more place
 pub place_taken : (ns : List ℕ) (i : ℕ) (d : ℕ) → i < length ns → (places_for 0 (take (i + 1) ns) ≡ places_for 0 (take i ns) ++ record { start = total (take i ns); end = total (take i ns) + slice_index_or ns i d } ∷ []) × (total (take (i + 1) ns) ≡ total (take i ns) + slice_index_or ns i d)
 place_taken ns i d below =
     let more : take (i + 1) ns ≡ take i ns ++ slice_index_or ns i d ∷ [] = take_more ns i d below in

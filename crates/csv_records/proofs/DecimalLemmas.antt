@@ -7,12 +7,12 @@ use Rattle.std.proofs.lemmas.List.Sums.{fold-append}
 use Rattle.std.specs.List.{list_all, list_any}
 use Rattle.std.specs.Str.{chars}
 use Rattle.comfy_parts.specs.Text.{Text}
-use Rattle.csv_records.specs.Decimals.{byte_of, decides, digits_in, fraction_len, is_plain, is_read, marks_of, use_of, use_with}
+use Rattle.csv_records.specs.Decimals.{byte_of, decides, digits_in, fraction_len, is_plain, is_readable, marks_of, use_of, use_with}
 use Rattle.csv_records.specs.Number.{halves, is_neutral}
 use Rattle.csv_records.specs.declared.decimals.ColumnMarks.{ColumnMarks}
 use Rattle.csv_records.specs.declared.decimals.DecimalMark.{DecimalMark}
 use Rattle.csv_records.specs.declared.decimals.DecimalMark.TheVariants.{Comma, Point}
-use Rattle.csv_records.specs.declared.decimals.MarkUse.{MarkUse}
+use Rattle.csv_records.specs.declared.decimals.MarkSummary.{MarkSummary}
 
 or_nothing : (b : Bool) → (b || false) ≡ b
 or_nothing true = refl
@@ -32,14 +32,14 @@ use_more : (mark : DecimalMark) (fields : List Text) (field : Text) → use_with
 use_more mark fields field =
     let len : Text → ℕ = λ (f : Text). fraction_len (halves (byte_of mark) (digits_in f)) in
     let decided = any_more (λ (f : Text). decides mark (digits_in f)) fields field in
-    let read = all_more (λ (f : Text). is_read (halves (byte_of mark) (digits_in f))) fields field in
+    let read = all_more (λ (f : Text). is_readable (halves (byte_of mark) (digits_in f))) fields field in
     let longest = ap (fold max 0) (map-append len fields (field ∷ [])) ∙ fold-append max 0 (map len fields) (len field ∷ []) in
     sym (rw (decided, read, longest) refl)
 
 same_parts : (m n : ColumnMarks) → m.are_plain ≡ n.are_plain → m.point ≡ n.point → m.comma ≡ n.comma → m ≡ n
 same_parts m n plain point comma = ap (λ (b : Bool). made_of b m.point m.comma) plain ∙ ap₂ (made_of n.are_plain) point comma
   where
-    made_of : Bool → MarkUse → MarkUse → ColumnMarks
+    made_of : Bool → MarkSummary → MarkSummary → ColumnMarks
     made_of are_plain point comma = record { are_plain = are_plain; point = point; comma = comma }
 
 pub marks_more : (fields : List Text) (field : Text) (had made : ColumnMarks) → had ≡ marks_of fields
@@ -54,8 +54,8 @@ marks_more fields field had made same plain point comma =
 -- ---- empty fields
 
 -- digits without a mark leave the use of the mark unchanged
-nothing_of : (mark : DecimalMark) (this : MarkUse) (digits : Text) → halves (byte_of mark) digits ≡ None → this ≡ use_with mark this digits
-nothing_of mark this digits none = rw (none, or_nothing this.is_decided, and_nothing this.is_read, max-zero this.longest) refl
+nothing_of : (mark : DecimalMark) (this : MarkSummary) (digits : Text) → halves (byte_of mark) digits ≡ None → this ≡ use_with mark this digits
+nothing_of mark this digits none = rw (none, or_nothing this.is_needed, and_nothing this.is_readable, max-zero this.longest) refl
 
 pub empty_is_plain : is_plain [] ≡ true
 unfolding chars is_neutral

@@ -124,10 +124,10 @@ module _ (s t : DecodeUtf16 (List ℕ)) where
           rw (taken_alone m took.0 same, own.same) (lone u (peekable_source m) own.alone)
       by_units (inr (v, next, is)) =
           let own = two c u v scalar is in
-          let behind : peekable_source m ≡ v ∷ peekable_source (decode_utf16_units t) =
+          let after : peekable_source m ≡ v ∷ peekable_source (decode_utf16_units t) =
           subst (λ (p : Option (Option ℕ)). GivesAhead p (peekable_source m) (Some v) (peekable_source (decode_utf16_units t))) took.0 next.1 in
           let left : units_left t ≡ peekable_source (decode_utf16_units t) = ap (λ (p : Option (Option ℕ)). units_ahead p (peekable_source (decode_utf16_units t))) next.0 in
-          rw (behind, left, ← own.same) (utf16_chars_pair u v (peekable_source (decode_utf16_units t)) own.pair)
+          rw (after, left, ← own.same) (utf16_chars_pair u v (peekable_source (decode_utf16_units t)) own.pair)
 
   -- a call gave a surrogate without a partner
   unpaired_read : (e : DecodeUtf16Error) → decode_utf16_steps Gives s (Some (Err e)) t → utf16_chars (units_left s) ≡ None ∷ utf16_chars (units_left t)
@@ -213,8 +213,8 @@ module _ (units : List ℕ) (s t : DecodeUtf16 (List ℕ)) (text : Text) (decode
       is_even = grind (arith, even)
 
   -- an odd byte follows the units
-  pub odd_behind : (above : ℕ) → decode_utf16_steps Gives s None t → (bytes : Text) → length bytes % 2 ≡ 1 → IsFirstUnpaired (utf16_chars units ++ odd_byte bytes) above (line_number above text)
-  odd_behind above steps bytes odd = record {
+  pub odd_after : (above : ℕ) → decode_utf16_steps Gives s None t → (bytes : Text) → length bytes % 2 ≡ 1 → IsFirstUnpaired (utf16_chars units ++ odd_byte bytes) above (line_number above text)
+  odd_after above steps bytes odd = record {
     before = decoded.characters;
     after = [];
     first = ap (λ (n : ℕ). utf16_chars units ++ (if n == 0 then [] else None ∷ [])) odd ∙ ap (λ (x : List (Option ℕ)). x ++ (None ∷ [])) (all_decoded steps);

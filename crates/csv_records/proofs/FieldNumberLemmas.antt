@@ -15,7 +15,7 @@ use Rattle.std.specs.Str.{IsAscii, chars}
 use Rattle.comfy_parts.specs.Text.{Text, is_printable_ascii}
 use Rattle.csv_records.proofs.FigureLemmas.{by_end, to_other-stops}
 use Rattle.csv_records.specs.Decimals.{digits_in, fraction_of, number_of, number_with}
-use Rattle.csv_records.specs.Number.{back_of, figure_of, from_other, front_of, halves, has_indian_groups, is_decimal, is_digits, is_enclosed, is_figure, is_fraction, is_inner, is_name, is_number, is_outer, is_scientific, is_sign, is_signed, is_signed_later, is_space, is_written, to_other, trimmed, unsigned, without_first, without_spaces_before, is_amount, begins}
+use Rattle.csv_records.specs.Number.{back_of, figure_of, from_other, front_of, halves, has_indian_groups, is_decimal, is_digits, is_enclosed, is_figure, is_fraction, is_inner, is_name, is_number, is_outer, is_scientific, is_sign, is_signed, is_signed_later, is_space, is_written, to_other, trimmed, unsigned, without_first, without_leading_spaces, is_amount, begins}
 use Rattle.csv_records.specs.declared.field_number.FieldNumber.{FieldNumber}
 use Rattle.csv_records.specs.declared.field_number.Fraction.{Fraction}
 
@@ -86,7 +86,7 @@ module _ (text : Text) (all : list_all is_written text ≡ true) where
   encoded : encode_utf8_all text ≡ text
   encoded = ap encode_utf8_all (sym characters) ∙ encodes-chars text (IsUtf8-from_ascii text ascii)
 
-  alone_before : without_spaces_before text ≡ text
+  alone_before : without_leading_spaces text ≡ text
   alone_before = ap (λ (cs : List ℕ). encode_utf8_all (from_other is_space cs)) characters ∙ ap encode_utf8_all (from_first is_written is_space no_space text all) ∙ encoded
 
   alone : trimmed text ≡ text
@@ -275,7 +275,7 @@ digits_before (b ∷ bs) = by_test (is_ascii_digit b) refl (digits_before bs)
         subst (λ (n : ℕ). AreDigits (take n (b ∷ bs))) (sym none) refl
 
 abbrev pub none : Fraction
-none = record { len = 0; is_read = true }
+none = record { len = 0; is_readable = true }
 
 abbrev pub decimal_of : Bool → Bool → Fraction → Fraction → FieldNumber
 decimal_of is_number is_bare point comma =
@@ -338,10 +338,10 @@ module _ (digits : Text) (is_number : Bool) (is : is_number ≡ (not (length dig
       nothing_left (b ∷ bs) is = absurd (omega (arith, is))
 
   pub marked_is_inner : (m : ℕ) → is_inner m ≡ true → 0 < length rest → get_or rest 0 0 ≡ m → AreDigits (take (length rest - 1) (drop 1 rest)) → list_all is_inner digits ≡ true
-  marked_is_inner m inner some first behind =
+  marked_is_inner m inner some first after =
       ap (list_all is_inner) (sym (ap (λ t. whole ++ t) (sym (first_there rest m some first)) ∙ split)) ∙ list_all-append is_inner whole (m ∷ drop 1 rest)
       ∙ and_from (list_all is_inner whole) (list_all is_inner (m ∷ drop 1 rest)) (all_from is_ascii_digit is_inner digit_inner whole (digits_before digits))
-      (and_from (is_inner m) (list_all is_inner (drop 1 rest)) inner (all_from is_ascii_digit is_inner digit_inner (drop 1 rest) (taken behind)))
+      (and_from (is_inner m) (list_all is_inner (drop 1 rest)) inner (all_from is_ascii_digit is_inner digit_inner (drop 1 rest) (taken after)))
 
   pub whole_number : length rest ≡ 0 → decimal_of is_number is_bare none none ≡ number_with (is_figure digits) is_bare digits
   whole_number ends = by_len (length digits == 0) refl
@@ -385,7 +385,7 @@ module _ (digits : Text) (is_number : Bool) (is : is_number ≡ (not (length dig
     read_so : is_fraction (halves m digits) ≡ true
     read_so = ap is_fraction found ∙ read
 
-    own_fraction : record { len = length rest; is_read = true } ≡ fraction_of (halves m digits)
+    own_fraction : record { len = length rest; is_readable = true } ≡ fraction_of (halves m digits)
     own_fraction =
         let long : length rest ≡ 1 + length (drop 1 rest) = ap length (first_there rest m some first) ∙ omega arith in
         sym (ap fraction_of found ∙ rw (read, long) refl)
@@ -409,17 +409,17 @@ module _ (digits : Text) (is_number : Bool) (is : is_number ≡ (not (length dig
     some_there = grind (arith, more)
 
   pub point_number : 0 < length rest → get_or rest 0 0 ≡ 0x2E → AreDigits (take (length rest - 1) (drop 1 rest)) → 1 < length digits
-      → decimal_of is_number is_bare (record { len = length rest; is_read = true }) none ≡ number_with (is_figure digits) is_bare digits
-  point_number some first behind more =
-      let digital = taken behind in
+      → decimal_of is_number is_bare (record { len = length rest; is_readable = true }) none ≡ number_with (is_figure digits) is_bare digits
+  point_number some first after more =
+      let digital = taken after in
       let fraction = read_so 0x2E refl some first digital more in
       of_decimal _ none (or_inside (is_digits digits) (is_fraction (halves 0x2E digits)) (is_fraction (halves 0x2C digits)) _ (rw fraction refl)) (some_there 0x2E refl some first digital more)
       (own_fraction 0x2E refl some first digital more) (no_other 0x2E refl some first digital more 0x2C refl refl)
 
   pub comma_number : 0 < length rest → get_or rest 0 0 ≡ 0x2C → AreDigits (take (length rest - 1) (drop 1 rest)) → 1 < length digits
-      → decimal_of is_number is_bare none (record { len = length rest; is_read = true }) ≡ number_with (is_figure digits) is_bare digits
-  comma_number some first behind more =
-      let digital = taken behind in
+      → decimal_of is_number is_bare none (record { len = length rest; is_readable = true }) ≡ number_with (is_figure digits) is_bare digits
+  comma_number some first after more =
+      let digital = taken after in
       let fraction = read_so 0x2C refl some first digital more in
       of_decimal none _ (or_inside (is_digits digits) (is_fraction (halves 0x2E digits)) (is_fraction (halves 0x2C digits)) _ (or_other (is_fraction (halves 0x2E digits)) _ fraction)) (some_there 0x2C refl some first digital more)
       (no_other 0x2C refl some first digital more 0x2E refl refl) (own_fraction 0x2C refl some first digital more)

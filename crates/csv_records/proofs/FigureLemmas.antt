@@ -73,9 +73,9 @@ start_boundary text utf8 = by_size (cases_lt (prefix_len is_outer text) (length 
         subst (IsCharBoundary text) same (IsCharBoundary-end text)
 
 -- a character ends after a digit or mark, and at the start of the text
-pub boundary_behind : (text : Text) (end : ℕ) → IsUtf8 text → end ≤ length text → (0 < end → is_outer (get_or text (end - 1) 0) ≡ false) → IsCharBoundary text end
-boundary_behind text zero utf8 within inner = IsCharBoundary-start text utf8
-boundary_behind text (suc n) utf8 within inner =
+pub boundary_after : (text : Text) (end : ℕ) → IsUtf8 text → end ≤ length text → (0 < end → is_outer (get_or text (end - 1) 0) ≡ false) → IsCharBoundary text end
+boundary_after text zero utf8 within inner = IsCharBoundary-start text utf8
+boundary_after text (suc n) utf8 within inner =
     let one : suc n - 1 ≡ n = omega arith in
     let more : n + 1 ≡ suc n = omega arith in
     subst (IsCharBoundary text) more (IsCharBoundary-after_ascii text n utf8 (omega (arith, within)) (inner_small (get_or text n 0) (ap (λ (k : ℕ). is_outer (get_or text k 0)) (sym one) ∙ inner (omega arith))))
@@ -83,8 +83,8 @@ boundary_behind text (suc n) utf8 within inner =
 -- ---- single characters, and codes
 
 -- if nothing follows a character of a text, the text is that character
-pub stands_alone : (p : ℕ → Bool) (text rest : Text) (c : ℕ) → chars text ≡ c ∷ chars rest → length rest ≡ 0 → p c ≡ is_one p (chars text)
-stands_alone p text rest c same none = sym (ap (is_one p) (same ∙ ap (λ (cs : List ℕ). c ∷ cs) (chars-none rest none)))
+pub one_alone : (p : ℕ → Bool) (text rest : Text) (c : ℕ) → chars text ≡ c ∷ chars rest → length rest ≡ 0 → p c ≡ is_one p (chars text)
+one_alone p text rest c same none = sym (ap (is_one p) (same ∙ ap (λ (cs : List ℕ). c ∷ cs) (chars-none rest none)))
 
 -- a word of a list has the property that all words of the list have
 pub among-all : (P : Text → Bool) (words : List Text) (text : Text) → list_all P words ≡ true → is_among words text ≡ true → P text ≡ true

@@ -16,6 +16,6 @@ module _ {A : Type 0} (most : ℕ) (all : List A) (more : A) where
       let grown : length (all ++ more ∷ []) ≤ most = omega (arith, length-append all (more ∷ []), few) in
       added ∙ ap (λ (xs : List A). xs ++ more ∷ []) (is ∙ all_of_few most all (omega (arith, few))) ∙ sym (all_of_few most (all ++ more ∷ []) grown)
 
-  -- there are enough before it
+  -- one more element isn't among the first ones, if there are enough elements before it
   pub none_kept : (first now : List A) → most ≤ length all → first ≡ take most all → now ≡ first → now ≡ take most (all ++ more ∷ [])
   none_kept first now many is same = same ∙ is ∙ sym (take-append-le most all (more ∷ []) many)

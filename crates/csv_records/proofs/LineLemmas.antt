@@ -27,14 +27,14 @@ boundary_before text = by_place (cases_lt (line_len text) (length text))
         subst (λ (n : ℕ). IsCharBoundary text n) whole (IsCharBoundary-end text)
 
 -- a text may be cut after a line end
-pub boundary_behind : (text : Text) → IsUtf8 text → IsCharBoundary text (end_len text)
-boundary_behind [] utf8 = IsCharBoundary-end []
-boundary_behind (a ∷ []) utf8 = by_end (ends_line a)
+pub boundary_after : (text : Text) → IsUtf8 text → IsCharBoundary text (end_len text)
+boundary_after [] utf8 = IsCharBoundary-end []
+boundary_after (a ∷ []) utf8 = by_end (ends_line a)
   where
     by_end : (v : Bool) → IsCharBoundary (a ∷ []) (if v then 1 else 0)
     by_end true = IsCharBoundary-end (a ∷ [])
     by_end false = IsCharBoundary-start (a ∷ []) utf8
-boundary_behind (a ∷ b ∷ rest) utf8 = by_ends ((a == 0x0D) && (b == 0x0A)) refl (ends_line a) refl
+boundary_after (a ∷ b ∷ rest) utf8 = by_ends ((a == 0x0D) && (b == 0x0A)) refl (ends_line a) refl
   where
     by_ends : (v : Bool) → ((a == 0x0D) && (b == 0x0A)) ≡ v → (w : Bool) → ends_line a ≡ w → IsCharBoundary (a ∷ b ∷ rest) (if v then 2 else if w then 1 else 0)
     by_ends true both w is =

@@ -20,11 +20,11 @@ module _ (options : InputOptions) (text : Text) (other : options.delimiter ≢ S
 
   pub line_is : (delimiter : ℕ) (rest : Text) (before : ℕ) → delimiter ≡ (delimited options.delimiter options.has_quotes text).0 → rest ≡ (delimited options.delimiter options.has_quotes text).1
       → line delimiter rest options.has_quotes before ≡ line_of_record options text before
-  line_is delimiter rest before byte behind =
+  line_is delimiter rest before byte after =
       let parts = plain_parted options text other in
       let found = parted options text in
       ap (λ (d : ℕ). line d rest options.has_quotes before) (byte ∙ ap (λ (p : ℕ × Text). p.0) (sym parts))
-      ∙ ap (λ (r : Text). line found.0 r options.has_quotes before) (behind ∙ ap (λ (p : ℕ × Text). p.1) (sym parts))
+      ∙ ap (λ (r : Text). line found.0 r options.has_quotes before) (after ∙ ap (λ (p : ℕ × Text). p.1) (sym parts))
       ∙ ap (λ (q : Bool). line found.0 found.1 q before) (sym (plain_quotes options.delimiter options.has_quotes other))
 
   module _ (records : List (List Text)) where

@@ -34,8 +34,8 @@ ends-last p (d ∷ []) c = refl
 ends-last p (d ∷ e ∷ cs) c = ends-last p (e ∷ cs) c
 
 module _ (text rest : Text) (c : ℕ) (utf8 : IsUtf8 text) (rest_utf8 : IsUtf8 rest) where
-  pub behind_first : text ≡ encode_utf8 c ++ rest → rest ≡ without_first text
-  behind_first splits = sym (encodes-chars rest rest_utf8) ∙ sym (ap (λ (cs : List ℕ). encode_utf8_all (drop 1 cs)) (chars_past_char text rest c utf8 splits))
+  pub after_first : text ≡ encode_utf8 c ++ rest → rest ≡ without_first text
+  after_first splits = sym (encodes-chars rest rest_utf8) ∙ sym (ap (λ (cs : List ℕ). encode_utf8_all (drop 1 cs)) (chars_past_char text rest c utf8 splits))
 
   -- the last character alone is UTF-8
   last_utf8 : text ≡ rest ++ encode_utf8 c → IsUtf8 (encode_utf8 c)

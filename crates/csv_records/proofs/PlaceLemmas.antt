@@ -68,13 +68,13 @@ size fields place within =
     let left : place.end - place.start ≤ length (drop place.start fields) = omega (arith, within.1, length-drop place.start fields) in
     length-take-le (place.end - place.start) (drop place.start fields) left
 
-field_behind : (n : ℕ) (fields : List Text) (i : ℕ) → field_at (drop n fields) i ≡ field_at fields (n + i)
+field_past : (n : ℕ) (fields : List Text) (i : ℕ) → field_at (drop n fields) i ≡ field_at fields (n + i)
 unfolding field_at
-field_behind zero fields i = ap (field_at fields) (sym (zero-add i))
-field_behind (suc n) [] i = refl
-field_behind (suc n) (f ∷ fs) i =
+field_past zero fields i = ap (field_at fields) (sym (zero-add i))
+field_past (suc n) [] i = refl
+field_past (suc n) (f ∷ fs) i =
     let one : suc n + i ≡ suc (n + i) = omega arith in
-    field_behind n fs i ∙ ap (field_at (f ∷ fs)) (sym one)
+    field_past n fs i ∙ ap (field_at (f ∷ fs)) (sym one)
 
 field_before : (n : ℕ) (fields : List Text) (i : ℕ) → i < n → field_at (take n fields) i ≡ field_at fields i
 unfolding field_at
@@ -84,7 +84,7 @@ field_before (suc n) (f ∷ fs) zero below = refl
 field_before (suc n) (f ∷ fs) (suc i) below = field_before n fs i (omega (arith, below))
 
 pub field_of_record : (fields : List Text) (place : Place) (i : ℕ) → i < place.end - place.start → field_at fields (place.start + i) ≡ field_at (fields_at fields place) i
-field_of_record fields place i below = sym (field_before (place.end - place.start) (drop place.start fields) i below ∙ field_behind place.start fields i)
+field_of_record fields place i below = sym (field_before (place.end - place.start) (drop place.start fields) i below ∙ field_past place.start fields i)
 
 -- ---- texts
 

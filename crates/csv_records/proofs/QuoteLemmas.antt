@@ -98,8 +98,8 @@ module _ (delimiter c : ℕ) where
       by_quote true same = rw (← same) refl
       by_quote false same = rw (← same) refl
 
-  behind_quote : (s : State) → s ≡ st.AfterQuote → (c == 0x22) ≡ false → IsOutside (ends_field delimiter c) (next s)
-  behind_quote s here differs = rw here (by_quote (c == 0x22) differs)
+  after_quote : (s : State) → s ≡ st.AfterQuote → (c == 0x22) ≡ false → IsOutside (ends_field delimiter c) (next s)
+  after_quote s here differs = rw here (by_quote (c == 0x22) differs)
     where
       by_quote : (b : Bool) → b ≡ false → IsOutside (ends_field delimiter c) (choice b (st.InQuoted, act.Copy) (in_field (config_for delimiter true) c)).0
       by_quote true differs = absurd (cc differs)
@@ -132,8 +132,8 @@ module _ (delimiter : ℕ) (text : Text) where
       ap (state_after delimiter) (take_more text at 0 within)
       ∙ fold-append (λ (s : State) (b : ℕ). (step (config_for delimiter true) s b).0) st.StartRecord (take at text) (slice_index text at ∷ [])
 
-  behind : (at : ℕ) → is_opening delimiter text (at + 1) ≡ ends_field delimiter (slice_index text at)
-  behind at =
+  after : (at : ℕ) → is_opening delimiter text (at + 1) ≡ ends_field delimiter (slice_index text at)
+  after at =
       let same : at + 1 ≡ suc at = omega arith in
       ap (is_opening delimiter text) same
 
@@ -141,9 +141,9 @@ module _ (delimiter : ℕ) (text : Text) where
 
   outside_next : (at : ℕ) → at < length text → WalksOutside at → (slice_index text at == 0x22) ≡ false → WalksOutside (at + 1)
   outside_next at within (inl here) differs =
-      inl (rw (behind at, one_more at within) (stays_outside delimiter (slice_index text at) (is_opening delimiter text at) (state_at at) here differs))
+      inl (rw (after at, one_more at within) (stays_outside delimiter (slice_index text at) (is_opening delimiter text at) (state_at at) here differs))
   outside_next at within (inr closed) differs =
-      inl (rw (behind at, one_more at within) (behind_quote delimiter (slice_index text at) (state_at at) closed.closes differs))
+      inl (rw (after at, one_more at within) (after_quote delimiter (slice_index text at) (state_at at) closed.closes differs))
 
   pub outside_run : (n at : ℕ) → at + n ≤ length text → WalksOutside at → HasNoQuotes text at n → WalksOutside (at + n)
   outside_run zero at within here none =
@@ -161,7 +161,7 @@ module _ (delimiter : ℕ) (text : Text) where
   pub passes : (at : ℕ) → at < length text → (slice_index text at == 0x22) ≡ true → WalksOutside at → is_opening delimiter text at ≡ false → WalksOutside (at + 1)
   passes at within is here literal =
       let field : state_at at ≡ st.InField = rw literal at (at_quote at within is here) in
-      inl (rw (behind at, one_more at within) (in_a_field delimiter (slice_index text at) (state_at at) field))
+      inl (rw (after at, one_more at within) (in_a_field delimiter (slice_index text at) (state_at at) field))
 
   pub starts : (at : ℕ) → at < length text → (slice_index text at == 0x22) ≡ true → WalksOutside at → is_opening delimiter text at ≡ true → is_field_start (state_at at) ≡ true
   starts at within is here opening = rw opening at (at_quote at within is here)
@@ -188,8 +188,8 @@ module _ (delimiter : ℕ) (text : Text) where
   still_quoted : (s : State) → s ≡ st.InQuoted → is_in_quoted_field s ≡ true
   still_quoted s is = rw is refl
 
-  still_behind : (s : State) → s ≡ st.AfterQuote → is_in_quoted_field s ≡ true
-  still_behind s is = rw is refl
+  still_after : (s : State) → s ≡ st.AfterQuote → is_in_quoted_field s ≡ true
+  still_after s is = rw is refl
 
   goes_on_to : (from to : ℕ) → StaysQuoted delimiter text from to → is_in_quoted_field (state_at (to + 1)) ≡ true
       → (n : ℕ) → from ≤ n → n ≤ to + 1 → is_in_quoted_field (state_at n) ≡ true
@@ -215,19 +215,19 @@ module _ (delimiter : ℕ) (text : Text) where
       let before : StaysQuoted delimiter text from (at + n) = quoted_run n from at (omega (arith, within)) so (λ k less. none k (omega (arith, less))) in
       subst (λ (m : ℕ). StaysQuoted delimiter text from m) (omega arith) (quoted_next from (at + n) (omega (arith, within)) before (none n (omega arith)))
 
-  behind_closing : (from at : ℕ) → at < length text → StaysQuoted delimiter text from at → (slice_index text at == 0x22) ≡ true → state_at (at + 1) ≡ st.AfterQuote
-  behind_closing from at within so is = one_more at within ∙ in_quotes delimiter (slice_index text at) (state_at at) so.is_open true is
+  after_closing : (from at : ℕ) → at < length text → StaysQuoted delimiter text from at → (slice_index text at == 0x22) ≡ true → state_at (at + 1) ≡ st.AfterQuote
+  after_closing from at within so is = one_more at within ∙ in_quotes delimiter (slice_index text at) (state_at at) so.is_open true is
 
   pub closes : (from at : ℕ) → at < length text → StaysQuoted delimiter text from at → (slice_index text at == 0x22) ≡ true
       → (at + 1 < length text → (slice_index text (at + 1) == 0x22) ≡ false) → ClosesAt delimiter text (at + 1)
-  closes from at within so is alone = record { closes = behind_closing from at within so is; is_alone = alone }
+  closes from at within so is alone = record { closes = after_closing from at within so is; is_alone = alone }
 
   pub both_quotes : (from at : ℕ) → at + 1 < length text → StaysQuoted delimiter text from at → (slice_index text at == 0x22) ≡ true
       → (slice_index text (at + 1) == 0x22) ≡ true → StaysQuoted delimiter text from (at + 1 + 1)
   both_quotes from at within so is again = record { goes_on = goes_on; is_open = inside }
     where
       middle : state_at (at + 1) ≡ st.AfterQuote
-      middle = behind_closing from at (omega (arith, within)) so is
+      middle = after_closing from at (omega (arith, within)) so is
 
       inside : state_at (at + 1 + 1) ≡ st.InQuoted
       inside = one_more (at + 1) within ∙ two_quotes delimiter (slice_index text (at + 1)) (state_at (at + 1)) middle again
@@ -239,7 +239,7 @@ module _ (delimiter : ℕ) (text : Text) where
           by_size (inl past) =
               let same : n ≡ at + 1 + 1 = omega (arith, past, high) in
               rw same (still_quoted (state_at (at + 1 + 1)) inside)
-          by_size (inr le) = goes_on_to from at so (still_behind (state_at (at + 1)) middle) n low le
+          by_size (inr le) = goes_on_to from at so (still_after (state_at (at + 1)) middle) n low le
 
   -- quotes stay open up to the end of the text
   pub unclosed : (at : ℕ) → at < length text → (slice_index text at == 0x22) ≡ true → is_field_start (state_at at) ≡ true

@@ -14,7 +14,7 @@ use Rattle.csv_records.specs.Cleaning.{is_replaced, may_begin_replaced}
 at_front : (b : ℕ) (bs : Text) → may_begin_replaced b ≡ true → list_any may_begin_replaced (b ∷ bs) ≡ true
 at_front b bs passes = ap (λ (is : Bool). is || list_any may_begin_replaced bs) passes
 
--- the UTF-8 of a replaced character begins with such a byte
+-- the UTF-8 of a replaced character has a byte for which `may_begin_replaced` is true
 begins_so : (c : ℕ) → is_replaced c ≡ true → list_any may_begin_replaced (encode_utf8 c) ≡ true
 unfolding encode
 begins_so c replaced = by_size (ltb c 128) (ltb c 2048) (ltb c 65536) refl refl refl
@@ -26,7 +26,7 @@ begins_so c replaced = by_size (ltb c 128) (ltb c 2048) (ltb c 65536) refl refl 
     by_size false false true is_one is_two is_three = at_front (224 + c / 4096) ((128 + (c / 64) % 64) ∷ (128 + c % 64) ∷ []) (grind (arith, nat_tests, replaced, is_two, is_three))
     by_size false false false is_one is_two is_three = absurd (grind (arith, nat_tests, replaced, is_three))
 
--- a text without such bytes has no replaced characters
+-- a text without a byte for which `may_begin_replaced` is true has no replaced characters
 none_encoded : (cs : List ℕ) → list_any may_begin_replaced (encode_utf8_all cs) ≡ false → list_any is_replaced cs ≡ false
 none_encoded [] none = refl
 none_encoded (c ∷ cs) none =

@@ -12,7 +12,7 @@ use Rattle.std.specs.Prelude.{if◌then◌else◌, not}
 use Rattle.std.specs.Str.{IsCharBoundary, IsUtf8}
 use Rattle.comfy_parts.specs.Text.{Text}
 use Rattle.csv_records.specs.Number.{halves}
-use Rattle.csv_records.specs.Spaces.{behind_field, first_field, is_gap, spaced, tabbed_line}
+use Rattle.csv_records.specs.Spaces.{after_field, first_field, is_gap, spaced, tabbed_line}
 
 gap_is_ascii : (b : ℕ) → is_gap b ≡ true → b < 128
 gap_is_ascii b is = grind (arith, is, tests)
@@ -29,8 +29,8 @@ boundary_before_gap text = by_place (cases_lt (position_or_len is_gap text) (len
         subst (λ (n : ℕ). IsCharBoundary text n) whole (IsCharBoundary-end text)
 
 -- a text may be cut after the gap at its front
-pub boundary_behind_gap : (text : Text) → IsUtf8 text → IsCharBoundary text (prefix_len is_gap text)
-boundary_behind_gap text utf8 = by_len (prefix_len is_gap text) refl
+pub boundary_after_gap : (text : Text) → IsUtf8 text → IsCharBoundary text (prefix_len is_gap text)
+boundary_after_gap text utf8 = by_len (prefix_len is_gap text) refl
   where
     by_len : (n : ℕ) → prefix_len is_gap text ≡ n → IsCharBoundary text n
     by_len zero is = IsCharBoundary-start text utf8
@@ -47,8 +47,8 @@ spaced_front line zero none = refl
 spaced_front [] (suc at) none = refl
 spaced_front (b ∷ bs) (suc at) none = rw (none 0 (omega arith)) (ap (λ (t : Text). b ∷ t) (spaced_front bs at (λ k less. none (suc k) (omega (arith, less)))))
 
-pub spaced_halves : (line before behind : Text) → halves 0x09 line ≡ Some (before, behind) → (spaced line ≡ before ++ 0x20 ∷ spaced behind) × (length behind < length line)
-spaced_halves line before behind is = by_place (position (λ b. b == 0x09) line) refl is
+pub spaced_halves : (line before after : Text) → halves 0x09 line ≡ Some (before, after) → (spaced line ≡ before ++ 0x20 ∷ spaced after) × (length after < length line)
+spaced_halves line before after is = by_place (position (λ b. b == 0x09) line) refl is
   where
     at_place : (at : ℕ) → position (λ b. b == 0x09) line ≡ Some at → (spaced line ≡ take at line ++ 0x20 ∷ spaced (drop (at + 1) line)) × (length (drop (at + 1) line) < length line)
     at_place at found =
@@ -59,7 +59,7 @@ spaced_halves line before behind is = by_place (position (λ b. b == 0x09) line)
         let shorter = length-drop (at + 1) line in
         (parts ∙ ap (λ (t : Text). t ++ spaced (drop at line)) (spaced_front line at known.2) ∙ ap (λ (t : Text). take at line ++ spaced t) back, omega (arith, shorter, known.0))
 
-    by_place : (o : Option ℕ) → position (λ b. b == 0x09) line ≡ o → option_map {U = Text × Text} (λ at. (take at line, drop (at + 1) line)) o ≡ Some (before, behind) → (spaced line ≡ before ++ 0x20 ∷ spaced behind) × (length behind < length line)
+    by_place : (o : Option ℕ) → position (λ b. b == 0x09) line ≡ o → option_map {U = Text × Text} (λ at. (take at line, drop (at + 1) line)) o ≡ Some (before, after) → (spaced line ≡ before ++ 0x20 ∷ spaced after) × (length after < length line)
     by_place None found is = absurd (cc is)
     by_place (Some at) found is =
         subst (λ (p : Text × Text). (spaced line ≡ p.0 ++ 0x20 ∷ spaced p.1) × (length p.1 < length line))
@@ -78,8 +78,8 @@ one_more had field more whole d is = append_assoc (had ++ field) (d ∷ []) more
 
 -- ---- lines
 
-pub one_gap_less : (gaps at : ℕ) (line : Text) → at < gaps → (length (behind_field line) == 0) ≡ false
-    → tabbed_line (gaps - at) line ≡ first_field line ++ 0x09 ∷ tabbed_line (gaps - (at + 1)) (behind_field line)
+pub one_gap_less : (gaps at : ℕ) (line : Text) → at < gaps → (length (after_field line) == 0) ≡ false
+    → tabbed_line (gaps - at) line ≡ first_field line ++ 0x09 ∷ tabbed_line (gaps - (at + 1)) (after_field line)
 one_gap_less gaps at line less some =
     let step : gaps - at ≡ suc (gaps - (at + 1)) = omega arith in
     rw (step, some) refl

@@ -56,19 +56,19 @@ without_bom (a ∷ b ∷ c ∷ rest) utf8 = by_bom (is_bom a b c) refl
 -- ---- one byte
 
 -- the reader isn't in a comment in this state
-abbrev is_read : State → Bool
-is_read st.StartRecord = true
-is_read st.StartField = true
-is_read st.InField = true
-is_read st.InQuoted = true
-is_read st.AfterQuote = true
-is_read st.InEscape = true
-is_read st.InComment = false
-is_read st.AfterCr = true
+abbrev is_readable : State → Bool
+is_readable st.StartRecord = true
+is_readable st.StartField = true
+is_readable st.InField = true
+is_readable st.InQuoted = true
+is_readable st.AfterQuote = true
+is_readable st.InEscape = true
+is_readable st.InComment = false
+is_readable st.AfterCr = true
 
 -- after byte c the reader isn't in a comment, and a byte that isn't ASCII has joined the field
 record Joins (c : ℕ) (p : State × Action) : Type 0 where
-  outside : is_read p.0 ≡ true
+  outside : is_readable p.0 ≡ true
   joined : 128 ≤ c → p.1 ≡ act.Copy
 
 by_test : (c : ℕ) (b : Bool) (p q : State × Action) → (b ≡ true → Joins c p) → (b ≡ false → Joins c q) → Joins c (if b then p else q)
@@ -77,7 +77,7 @@ by_test c false p q met unmet = unmet refl
 
 module _ (delimiter : ℕ) (has_quotes : Bool) (c : ℕ) (ascii : delimiter < 128) where
   -- an ASCII byte may have any effect
-  low : (p : State × Action) → c < 128 → is_read p.0 ≡ true → Joins c p
+  low : (p : State × Action) → c < 128 → is_readable p.0 ≡ true → Joins c p
   low p below outside = record { outside = outside; joined = λ high. absurd (omega (arith, below, high)) }
 
   same : (n : ℕ) → n < 128 → (c == n) ≡ true → c < 128
@@ -95,7 +95,7 @@ module _ (delimiter : ℕ) (has_quotes : Bool) (c : ℕ) (ascii : delimiter < 12
       by_test c (c == delimiter) _ _ (λ is. low _ (same delimiter ascii is) refl)
       (λ unmet. by_test c ((c == 13) || (c == 10)) _ _ (λ is. low _ (grind (arith, is, tests)) (by_return (c == 13))) (λ unmet. record { outside = refl; joined = λ high. refl }))
     where
-      by_return : (b : Bool) → is_read (if b then st.AfterCr else st.StartRecord) ≡ true
+      by_return : (b : Bool) → is_readable (if b then st.AfterCr else st.StartRecord) ≡ true
       by_return true = refl
       by_return false = refl
 
@@ -105,7 +105,7 @@ module _ (delimiter : ℕ) (has_quotes : Bool) (c : ℕ) (ascii : delimiter < 12
   start_record-joins : Joins c (start_record (config_for delimiter has_quotes) c)
   start_record-joins = by_test c ((c == 13) || (c == 10)) _ _ (λ is. low _ (grind (arith, is, tests)) refl) (λ unmet. start_field-joins)
 
-  step-joins : (s : State) → is_read s ≡ true → Joins c (step (config_for delimiter has_quotes) s c)
+  step-joins : (s : State) → is_readable s ≡ true → Joins c (step (config_for delimiter has_quotes) s c)
   step-joins st.StartRecord read = start_record-joins
   step-joins st.StartField read = start_field-joins
   step-joins st.InField read = in_field-joins
@@ -122,7 +122,7 @@ module _ (delimiter : ℕ) (has_quotes : Bool) (c : ℕ) (ascii : delimiter < 12
 -- the fields of a record are UTF-8, and so is the text after the record
 record IsTextRecord (next : FoundRecord) : Type 0 where
   fields : AllText next.0
-  outside : is_read next.1 ≡ true
+  outside : is_readable next.1 ≡ true
   rest : IsUtf8 next.2
 
 no_fields : AllText []
@@ -133,7 +133,7 @@ module _ (delimiter : ℕ) (has_quotes : Bool) (ascii : delimiter < 128) where
   -- the next record of this text is UTF-8, whichever fields were read before it
   abbrev ReadsText : Text → Type 0
   ReadsText text =
-      (s : State) (fields : List Text) (field : Text) (next : FoundRecord) → is_read s ≡ true → AllText fields → IsUtf8 (field ++ text)
+      (s : State) (fields : List Text) (field : Text) (next : FoundRecord) → is_readable s ≡ true → AllText fields → IsUtf8 (field ++ text)
       → next_record (config_for delimiter has_quotes) s fields field text ≡ Some next → IsTextRecord next
 
   next_is_text : (text : Text) → ReadsText text
@@ -170,10 +170,10 @@ module _ (delimiter : ℕ) (has_quotes : Bool) (ascii : delimiter < 128) where
           let last : (fields ++ (field ∷ []), s2, text) ≡ next = cc found in
           subst IsTextRecord last (record { fields = text-more fields field texts both.0; outside = joins.outside; rest = both.1 })
 
-  reached_is_text : (records : List (List Text)) (s s2 : State) (text rest : Text) → is_read s ≡ true → IsUtf8 text → Reached (config_for delimiter has_quotes) s text records s2 rest
-      → All AllText records × (is_read s2 ≡ true) × IsUtf8 rest
+  reached_is_text : (records : List (List Text)) (s s2 : State) (text rest : Text) → is_readable s ≡ true → IsUtf8 text → Reached (config_for delimiter has_quotes) s text records s2 rest
+      → All AllText records × (is_readable s2 ≡ true) × IsUtf8 rest
   unfolding Reached
-  reached_is_text [] s s2 text rest read utf8 reached = (All-nil AllText, subst (λ (x : State). is_read x ≡ true) reached.0 read, subst IsUtf8 reached.1 utf8)
+  reached_is_text [] s s2 text rest read utf8 reached = (All-nil AllText, subst (λ (x : State). is_readable x ≡ true) reached.0 read, subst IsUtf8 reached.1 utf8)
   reached_is_text (fields ∷ records) s s2 text rest read utf8 (next, found, is, more) =
       let first = next_is_text text s [] [] next read no_fields utf8 found in
       let others = reached_is_text records next.1 s2 next.2 rest first.outside first.rest more in

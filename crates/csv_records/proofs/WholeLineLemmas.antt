@@ -20,28 +20,28 @@ nowhere [] none = refl
 nowhere (b ∷ rest) none = by_first (b == 0x0A) refl (nowhere rest (λ k within here. none (suc k) (omega (arith, within)) here))
   where
     by_first : (v : Bool) → (b == 0x0A) ≡ v → list_any is_line_feed rest ≡ false → (v || list_any is_line_feed rest) ≡ false
-    by_first true is behind = absurd (none 0 (omega arith) is)
-    by_first false is behind = behind
+    by_first true is after = absurd (none 0 (omega arith) is)
+    by_first false is after = after
 
 -- the text up to and with its last line feed is its complete lines
 last_whole : (text : Text) (k : ℕ) → k < length text → Passes (is_byte 0x0A) text k → ((i : ℕ) → k + 1 ≤ i → i < length text → ¬ (Passes (is_byte 0x0A) text i)) → take (k + 1) text ≡ whole_lines text
 last_whole [] k within here none = absurd (omega (arith, within))
 last_whole (b ∷ rest) zero within here none =
-    let behind = nowhere rest (λ k inside. none (suc k) (omega arith) (omega (arith, inside))) in
-    ap (λ t. b ∷ t) (sym (none_whole rest behind)) ∙ sym (some_whole b rest (rw here refl))
+    let after = nowhere rest (λ k inside. none (suc k) (omega arith) (omega (arith, inside))) in
+    ap (λ t. b ∷ t) (sym (none_whole rest after)) ∙ sym (some_whole b rest (rw here refl))
 last_whole (b ∷ rest) (suc k) within here none =
-    let behind = last_whole rest k (omega (arith, within)) here (λ i after inside. none (suc i) (omega (arith, after)) (omega (arith, inside))) in
+    let after = last_whole rest k (omega (arith, within)) here (λ i after inside. none (suc i) (omega (arith, after)) (omega (arith, inside))) in
     let some : list_any is_line_feed (b ∷ rest) ≡ true = list_any_at is_line_feed (b ∷ rest) (suc k) 0 within here in
     let more : suc k + 1 ≡ suc (k + 1) = omega arith in
-    ap (λ n. take n (b ∷ rest)) more ∙ ap (λ t. b ∷ t) behind ∙ sym (some_whole b rest some)
+    ap (λ n. take n (b ∷ rest)) more ∙ ap (λ t. b ∷ t) after ∙ sym (some_whole b rest some)
 
 -- the complete lines are a prefix of the text
-pub whole_front : (text : Text) → (behind : Text) × (text ≡ whole_lines text ++ behind)
+pub whole_front : (text : Text) → (after : Text) × (text ≡ whole_lines text ++ after)
 whole_front [] = ([], refl)
 whole_front (b ∷ rest) = by_test (list_any is_line_feed (b ∷ rest)) refl (whole_front rest)
   where
-    by_test : (some : Bool) → list_any is_line_feed (b ∷ rest) ≡ some → (behind : Text) × (rest ≡ whole_lines rest ++ behind) → (behind : Text) × (b ∷ rest ≡ whole_lines (b ∷ rest) ++ behind)
-    by_test true is (behind, parts) = (behind, ap (λ t. b ∷ t) parts ∙ ap (λ t. t ++ behind) (sym (some_whole b rest is)))
+    by_test : (some : Bool) → list_any is_line_feed (b ∷ rest) ≡ some → (after : Text) × (rest ≡ whole_lines rest ++ after) → (after : Text) × (b ∷ rest ≡ whole_lines (b ∷ rest) ++ after)
+    by_test true is (after, parts) = (after, ap (λ t. b ∷ t) parts ∙ ap (λ t. t ++ after) (sym (some_whole b rest is)))
     by_test false is own = (b ∷ rest, ap (λ t. t ++ (b ∷ rest)) (sym (none_whole (b ∷ rest) is)))
 
 pub whole_length : (text : Text) → length (whole_lines text) ≤ length text

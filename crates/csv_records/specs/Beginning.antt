@@ -63,6 +63,6 @@ NoneAreEnough options most read =
 -- the records of a beginning that is enough are the first records of the whole input
 abbrev pub FirstRecordsStay : InputOptions → ℕ → Text → Text → List (List Text)
     → List (List Text) → Type 0
-FirstRecordsStay options most beginning behind records all =
-    IsEnough options most beginning records → AreRecordsFor options (beginning ++ behind) all
+FirstRecordsStay options most beginning after records all =
+    IsEnough options most beginning records → AreRecordsFor options (beginning ++ after) all
     → (more : List (List Text)) × (all ≡ records ++ more)

@@ -15,7 +15,7 @@ has_space line at = slice_index line at == 0x20
 abbrev pub spaces_before : List ℕ → ℕ → ℕ
 spaces_before line at = suffix_len (λ c. c == 0x20) (take at line)
 
--- a name begins at a place that isn't a space and follows three spaces or more
+-- true if a name begins at a place: no space is there, and three spaces or more precede it
 abbrev pub begins_name : List ℕ → ℕ → Bool
 begins_name line at = nat_le 3 (spaces_before line at) && not (has_space line at)
 

@@ -51,8 +51,9 @@ blanks_at column =
 abbrev pub blanks_after : Text → Text
 blanks_after seen = blanks_at (measure seen % tab_width)
 
--- the state while a field is cleaned: the text written so far, the visible part of its last line
--- after the last tab stop that a TAB reached, and true if the last character was a carriage return
+-- The state while a field is cleaned. `text` is written so far. `seen` is the visible part of its
+-- last line, after the last tab stop that a TAB reached. `after_return` is true if the last
+-- character was a carriage return.
 pub record CleanedText : Type 0 where
   pub text : Text
   pub seen : Text

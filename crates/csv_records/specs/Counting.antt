@@ -19,7 +19,8 @@ state_at own.InField = st.InField
 state_at own.InQuoted = st.InQuoted
 state_at own.AfterQuote = st.AfterQuote
 
--- a state after an action that ends no record, and true if the action ends a field
+-- the state after an action of csv's reader, and true if the action ends a field; `None` if it ends
+-- the record
 abbrev pub after_action : Action → ReaderState → Option (ReaderState × Bool)
 after_action act.EndRecord state = None
 after_action act.EndField state = Some (state, true)
@@ -33,16 +34,17 @@ after_step next = after_action next.1 next.0
 abbrev pub step : Config → ReaderState → ℕ → Option (ReaderState × Bool)
 step config state b = after_step (csv.step config state b)
 
--- counts on after a byte: the record ends, or it goes on
-abbrev pub count_behind : (ReaderState → ℕ → Option (ℕ × Text)) → ℕ → Text
+-- the number of fields, and the text after the record, after a byte with this step: the byte ends
+-- the record, or `more` counts on
+abbrev pub count_after : (ReaderState → ℕ → Option (ℕ × Text)) → ℕ → Text
     → Option (ReaderState × Bool) → Option (ℕ × Text)
-count_behind more count rest None = Some (count, rest)
-count_behind more count rest (Some next) = more next.0 (count + (if next.1 then 1 else 0))
+count_after more count rest None = Some (count, rest)
+count_after more count rest (Some next) = more next.0 (count + (if next.1 then 1 else 0))
 
--- the number of fields of the record at hand, of which `count` have begun, and the text after the
--- record
+-- the number of fields of a record of which `count` fields have begun before this text, and the
+-- text after the record
 unfoldable pub count_from : Config → ReaderState → ℕ → Text → Option (ℕ × Text)
 count_from config state count [] = if csv.ends_at_end state then Some (count, []) else None
 count_from config state count (b ∷ rest) =
-    count_behind (λ state count. count_from config state count rest) count rest
+    count_after (λ state count. count_from config state count rest) count rest
     (step config state b)

@@ -8,7 +8,7 @@ use Rattle.csv_records.specs.Number.{begins, ends, figure_of, halves, has_groups
 use Rattle.csv_records.specs.declared.decimals.ColumnMarks.{ColumnMarks}
 use Rattle.csv_records.specs.declared.decimals.DecimalMark.{DecimalMark}
 use Rattle.csv_records.specs.declared.decimals.DecimalMark.TheVariants.{Comma, Point}
-use Rattle.csv_records.specs.declared.decimals.MarkUse.{MarkUse}
+use Rattle.csv_records.specs.declared.decimals.MarkSummary.{MarkSummary}
 use Rattle.csv_records.specs.declared.decimals.Points.{Points}
 use Rattle.csv_records.specs.declared.field_number.FieldNumber.{FieldNumber}
 use Rattle.csv_records.specs.declared.field_number.Fraction.{Fraction}
@@ -39,9 +39,9 @@ decides mark digits = is_fraction (halves (byte_of mark) digits) && not (may_be_
 
 -- true if digits lack the mark, or have a fraction after it. With a point, `1,234` and `1.5` are
 -- read, and `1.234.567` isn't.
-abbrev pub is_read : Option (Text × Text) → Bool
-is_read None = true
-is_read (Some parts) = is_fraction (Some parts)
+abbrev pub is_readable : Option (Text × Text) → Bool
+is_readable None = true
+is_readable (Some parts) = is_fraction (Some parts)
 
 -- the length of a mark and the digits of the fraction after it, or 0 without a mark
 abbrev pub fraction_len : Option (Text × Text) → ℕ
@@ -50,9 +50,9 @@ fraction_len (Some (whole, rest)) = 1 + length rest
 
 -- the length of a fraction, and true if its digits are read with the mark
 abbrev pub fraction_of : Option (Text × Text) → Fraction
-fraction_of parts = record { len = fraction_len parts; is_read = is_read parts }
+fraction_of parts = record { len = fraction_len parts; is_readable = is_readable parts }
 
--- a field as a number, by its digits
+-- the result of reading a field as a number; `digits` are its digits with the marks between them
 abbrev pub number_with : Bool → Bool → Text → FieldNumber
 number_with is_number is_bare digits =
     record {
@@ -68,23 +68,24 @@ number_of field = number_with (is_number field) (list_all is_written field) (dig
 
 -- ---- a column
 
--- the use that the digits of a column make of a mark
-abbrev pub use_of : DecimalMark → List Text → MarkUse
+-- a summary of the fields of a column for one mark
+abbrev pub use_of : DecimalMark → List Text → MarkSummary
 use_of mark fields =
     record {
-      is_decided = list_any (λ field. decides mark (digits_in field)) fields;
-      is_read = list_all (λ field. is_read (halves (byte_of mark) (digits_in field))) fields;
+      is_needed = list_any (λ field. decides mark (digits_in field)) fields;
+      is_readable =
+          list_all (λ field. is_readable (halves (byte_of mark) (digits_in field))) fields;
       longest =
           fold max 0
           (map (λ field. fraction_len (halves (byte_of mark) (digits_in field))) fields);
     }
 
--- the use of a mark after the digits of one more field
-abbrev pub use_with : DecimalMark → MarkUse → Text → MarkUse
+-- the summary for a mark after the digits of one more field
+abbrev pub use_with : DecimalMark → MarkSummary → Text → MarkSummary
 use_with mark this digits =
     record {
-      is_decided = this.is_decided || decides mark digits;
-      is_read = this.is_read && is_read (halves (byte_of mark) digits);
+      is_needed = this.is_needed || decides mark digits;
+      is_readable = this.is_readable && is_readable (halves (byte_of mark) digits);
       longest = max this.longest (fraction_len (halves (byte_of mark) digits));
     }
 
@@ -98,8 +99,8 @@ marks_of fields =
 
 -- true if some field decides for this mark, all fields are read with it, and no field decides for
 -- the other mark
-abbrev pub has_mark : MarkUse → MarkUse → Bool
-has_mark this other = (this.is_decided && this.is_read) && not other.is_decided
+abbrev pub has_mark : MarkSummary → MarkSummary → Bool
+has_mark this other = (this.is_needed && this.is_readable) && not other.is_needed
 
 abbrev pub points_for : ColumnMarks → Option Points
 points_for marks =
@@ -112,9 +113,10 @@ points_for marks =
 abbrev pub points_of : List Text → Option Points
 points_of fields = points_for (marks_of fields)
 
--- the spaces after a field of such a column that put its mark below those of the other fields
-abbrev pub spaces_behind : Points → Text → ℕ
-spaces_behind points field =
+-- the number of spaces after a field that put its mark below those of the other fields of its
+-- column
+abbrev pub trailing_spaces : Points → Text → ℕ
+trailing_spaces points field =
     if is_neutral field
     then 0
     else points.longest - fraction_len (halves (byte_of points.mark) (digits_in field))

@@ -1,4 +1,4 @@
--- The delimiter between the fields of a text, and the place where its records begin.
+-- The delimiter between the fields of a text, and the place at which its records begin.
 -- Source: this library's own; a line `sep=X` is Excel's.
 use Rattle.std.specs.Prelude.{ℕ, ◌+◌, ◌<◌, ◌==◌, ◌&&◌, ◌||◌, nat_lt, not, Bool, true, false, List, [], ◌∷◌, Option, Some, None, bytes_eq, codes, drop, is_some, length, map, option_and_then, option_map, take, unwrap_or, if◌then◌else◌}
 use Rattle.std.specs.Char.{to_ascii_lowercase}
@@ -13,13 +13,13 @@ use Rattle.csv_records.specs.declared.delimiter.Delimiter.TheVariants.{Auto, Byt
 
 -- ---- a line that names the delimiter
 
--- a word of one byte, which is neither a quote nor a line end
+-- the byte of a word of one byte, which is neither a quote nor a line end
 abbrev pub only_byte : Text → Option ℕ
 only_byte [] = None
 only_byte (b ∷ []) = if ((b == 0x22) || (b == 0x0A)) || (b == 0x0D) then None else Some b
 only_byte (b ∷ c ∷ rest) = None
 
--- the same for ASCII only
+-- the byte of a word of one ASCII character, which is neither a quote nor a line end
 abbrev pub only_ascii : Text → Option ℕ
 only_ascii word = option_and_then (λ b. if nat_lt b 128 then Some b else None) (only_byte word)
 
@@ -94,14 +94,14 @@ delimited NamedOrTab has_quotes text = unwrap_or (named_delimiter text) (0x09, t
 delimited Spaces has_quotes text = (0x09, text)
 
 -- a byte that isn't set by options is ASCII
-abbrev pub IsAsciiUnlessAsked : Delimiter → ℕ → Type 0
-IsAsciiUnlessAsked (Byte b) delimiter = Unit {0}
-IsAsciiUnlessAsked Auto delimiter = delimiter < 128
-IsAsciiUnlessAsked NamedOrTab delimiter = delimiter < 128
-IsAsciiUnlessAsked Spaces delimiter = delimiter < 128
+abbrev pub IsAsciiUnlessSet : Delimiter → ℕ → Type 0
+IsAsciiUnlessSet (Byte b) delimiter = Unit {0}
+IsAsciiUnlessSet Auto delimiter = delimiter < 128
+IsAsciiUnlessSet NamedOrTab delimiter = delimiter < 128
+IsAsciiUnlessSet Spaces delimiter = delimiter < 128
 
--- A text shows its delimiter, however it goes on, in one of four cases: the delimiter is a given
--- byte other than a line feed, or `NamedOrTab` is set, or the first line names it, or each tried
+-- A text shows its delimiter, however it goes on, in one of four cases. The delimiter is a given
+-- byte other than a line feed, or `NamedOrTab` is set, or the first line names it. Or each tried
 -- delimiter gives the text more records than are compared. If spaces are the delimiter, no
 -- beginning is enough.
 abbrev pub shows_delimiter : Delimiter → Bool → Text → Bool

@@ -68,7 +68,7 @@ units order [] = []
 units order (a ∷ []) = []
 units order (a ∷ b ∷ rest) = unit order a b ∷ units order rest
 
--- `None` for an odd byte at the end
+-- a list with `None` for an odd byte at the end, or an empty list if there is none
 abbrev pub odd_byte : Text → List (Option ℕ)
 odd_byte bytes = if length bytes % 2 == 0 then [] else None ∷ []
 

@@ -54,8 +54,9 @@ filled_len fields = length fields - suffix_len (λ field. length field == 0) fie
 abbrev pub is_longer : List (List Text) → List Text → Bool
 is_longer records fields = nat_lt (field_count records 0) (filled_len fields)
 
--- a report of these records: the line and the fields of the first of them, the number of the
--- others, and true if the others are all that follow
+-- The report if the first longer record is at the position `at`. It has the line and the number of
+-- fields of this record, and the number of other longer records. `lasts` is true if these are all
+-- records after it.
 abbrev pub longer_at : (ℕ → ℕ) → List (List Text) → ℕ → LongRecords
 longer_at line_of records at =
     record {
@@ -70,7 +71,8 @@ abbrev pub longer_by : (ℕ → ℕ) → List (List Text) → Option LongRecords
 longer_by line_of records =
     option_map (longer_at line_of records) (position (is_longer records) records)
 
--- the report, but none if spaces part the fields: the last column then takes the rest of its line
+-- the report, or `None` if spaces separate the fields: the last column then takes the rest of its
+-- line
 abbrev pub unless_spaces : {T : Type 0} → Delimiter → Option T → Option T
 unless_spaces Spaces longer = None
 unless_spaces _ longer = longer

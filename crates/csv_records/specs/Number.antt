@@ -57,21 +57,21 @@ abbrev pub without_last : Text → Text
 without_last text = encode_utf8_all (take (length (chars text) - 1) (chars text))
 
 -- a text without its first character if that passes, and without its last one if that passes
-abbrev pub behind : (ℕ → Bool) → Text → Text
-behind p text = if begins p (chars text) then without_first text else text
+abbrev pub without_leading : (ℕ → Bool) → Text → Text
+without_leading p text = if begins p (chars text) then without_first text else text
 
 abbrev pub before : (ℕ → Bool) → Text → Text
 before p text = if ends p (chars text) then without_last text else text
 
 -- a field without spaces at its front, at its end, and at both
-abbrev pub without_spaces_before : Text → Text
-without_spaces_before text = encode_utf8_all (from_other is_space (chars text))
+abbrev pub without_leading_spaces : Text → Text
+without_leading_spaces text = encode_utf8_all (from_other is_space (chars text))
 
-abbrev pub without_spaces_behind : Text → Text
-without_spaces_behind text = encode_utf8_all (to_other is_space (chars text))
+abbrev pub without_trailing_spaces : Text → Text
+without_trailing_spaces text = encode_utf8_all (to_other is_space (chars text))
 
 abbrev pub trimmed : Text → Text
-trimmed field = without_spaces_behind (without_spaces_before field)
+trimmed field = without_trailing_spaces (without_leading_spaces field)
 
 -- the texts before and after the first occurrence of an ASCII character
 abbrev pub halves : ℕ → Text → Option (Text × Text)
@@ -119,7 +119,7 @@ has_groups text =
 abbrev pub is_octet : Text → Bool
 is_octet text = is_some (number_for 8 text)
 
--- true for four such numbers, separated by points
+-- true for four numbers of at most 255, separated by points
 abbrev pub is_address : Text → Bool
 is_address text =
     (length (slice_split (λ b. b == 0x2E) text) == 4)
@@ -150,7 +150,7 @@ is_decimal text =
 
 -- true for digits after a sign, or without one
 abbrev pub is_exponent : Text → Bool
-is_exponent text = is_digits (behind is_sign text)
+is_exponent text = is_digits (without_leading is_sign text)
 
 -- true for a decimal and its exponent
 abbrev pub is_scientific : Option (Text × Text) → Bool
@@ -263,7 +263,7 @@ back_of text = drop (length (figure_of text)) (from_other is_outer text)
 
 -- true for a text that may follow a figure: nothing, or a unit, also after a blank
 abbrev pub is_end : Text → Bool
-is_end back = (length back == 0) || is_unit (behind is_blank back)
+is_end back = (length back == 0) || is_unit (without_leading is_blank back)
 
 -- true for texts that may surround a number without sign: a currency before it, or a unit after it,
 -- or nothing
@@ -294,7 +294,7 @@ is_enclosed front back =
     (begins (λ c. c == 0x28) (chars front) && ends (λ c. c == 0x29) (chars back))
     && is_amount (without_first front) (without_last back)
 
--- true for a figure between such texts, without spaces at its ends
+-- true for a figure between texts that may surround it, without spaces at its ends
 abbrev pub is_bare_number : Text → Bool
 is_bare_number text =
     (is_signed (front_of text) (back_of text) || is_enclosed (front_of text) (back_of text))
@@ -305,7 +305,7 @@ is_number field = is_bare_number (trimmed field)
 
 -- ---- neutral fields
 
--- true for the same word, in letters of either case
+-- true if `text` is `word`, in letters of either case
 abbrev pub is_word : Text → Text → Bool
 is_word word text = bytes_eq (map to_ascii_lowercase text) (map to_ascii_lowercase word)
 
@@ -329,7 +329,7 @@ is_dash text = is_among dashes text
 -- true for nothing, a dash, or a word for a missing value, with a sign or without one
 abbrev pub is_bare_neutral : Text → Bool
 is_bare_neutral text =
-    ((length text == 0) || is_dash text) || is_missing (behind is_sign text)
+    ((length text == 0) || is_dash text) || is_missing (without_leading is_sign text)
 
 unfoldable pub is_neutral : Text → Bool
 is_neutral field = is_bare_neutral (trimmed field)

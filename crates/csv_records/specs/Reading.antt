@@ -31,7 +31,7 @@ IsWithoutText options input e =
     (IsRefusedIn (encoding_of options.encoding input) options.skip input e)
     (λ what. e ≡ decode.NotText what)
 
--- the text that is split into records: if spaces part the fields, TABs take their place, by the
+-- the text that is split into records: if spaces separate the fields, TABs replace them, by the
 -- names of a header if the text has one
 abbrev pub read_text : Bool → Delimiter → Text → Text
 read_text has_header (Byte b) text = text
@@ -39,7 +39,7 @@ read_text has_header Auto text = text
 read_text has_header NamedOrTab text = text
 read_text has_header Spaces text = tabbed_text has_header text
 
--- true if quotes count: never if spaces part the fields
+-- true if quotes count: never if spaces separate the fields
 abbrev pub counts_quotes : Delimiter → Bool → Bool
 counts_quotes (Byte b) has_quotes = has_quotes
 counts_quotes Auto has_quotes = has_quotes

@@ -15,11 +15,11 @@ is_gap b = (b == 0x20) || (b == 0x09)
 abbrev pub first_field : Text → Text
 first_field line = take (position_or_len is_gap line) line
 
-abbrev pub behind_gap : Text → Text
-behind_gap line = drop (prefix_len is_gap line) line
+abbrev pub after_gap : Text → Text
+after_gap line = drop (prefix_len is_gap line) line
 
-abbrev pub behind_field : Text → Text
-behind_field line = behind_gap (drop (position_or_len is_gap line) line)
+abbrev pub after_field : Text → Text
+after_field line = after_gap (drop (position_or_len is_gap line) line)
 
 -- the number of gaps that begin in a line; `begun` is true if the byte before it is in a gap
 abbrev pub gaps_from : Bool → Text → ℕ
@@ -44,7 +44,7 @@ begins_with_digit (b ∷ rest) = nat_le 0x30 b && nat_le b 0x39
 
 abbrev pub is_total : Text → Bool
 is_total line =
-    bytes_eq (first_field line) (codes "total") && begins_with_digit (behind_field line)
+    bytes_eq (first_field line) (codes "total") && begins_with_digit (after_field line)
 
 -- the number of gaps of a line
 abbrev pub line_gaps : Text → ℕ
@@ -65,8 +65,8 @@ abbrev pub is_indented : Text → Bool
 is_indented [] = false
 is_indented (b ∷ rest) = is_gap b
 
--- true if the first column has no name, as in the output of `free`: only the first line begins with
--- a gap, and the fullest line below it has one field more
+-- True if the first column has no name, as in the output of `free`. Only the first line then begins
+-- with a gap, and the fullest line below it has one field more.
 abbrev pub lacks_name : List Text → Bool
 lacks_name [] = false
 lacks_name (first ∷ others) =
@@ -95,9 +95,9 @@ spaced line = map (λ b. if b == 0x09 then 0x20 else b) line
 abbrev pub tabbed_line : ℕ → Text → Text
 tabbed_line zero line = spaced line
 tabbed_line (suc gaps) line =
-    if length (behind_field line) == 0
+    if length (after_field line) == 0
     then spaced line
-    else first_field line ++ 0x09 ∷ tabbed_line gaps (behind_field line)
+    else first_field line ++ 0x09 ∷ tabbed_line gaps (after_field line)
 
 -- lines with TABs for their first gaps
 abbrev pub lines_text : ℕ → List Text → Text

@@ -9,7 +9,8 @@ use Rattle.csv.specs.declared.reader.Reader.{Reader}
 use Rattle.csv.specs.declared.reader.Trim.TheVariants as trim
 use Rattle.csv_records.specs.Input.{config_for}
 
--- It reads a text with this delimiter. Records may differ in their number of fields.
+-- `reader` is at the start of a text with this delimiter. Records may differ in their number of
+-- fields.
 pub record IsStarted (delimiter : ℕ) (has_quotes : Bool) (text : Text)
     (reader : Reader (Bor Text)) : Type 0 where
   pub trim : reader.trim ≡ trim.None

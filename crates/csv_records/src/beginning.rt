@@ -1,4 +1,4 @@
-//! A beginning of an input that is enough for its first records.
+//! Finds the first records of an input in its beginning, if this beginning is enough for them.
 
 ghost use Rattle.std.specs.Prelude.{◌≡◌, ◌↔◌, List, ℕ, IfNone, IfOk, IfSome, IsTrue, string_bytes};
 ghost use Rattle.csv_records.specs.Beginning.{EndsWithLine, IsFoundInBeginning, NoneAreEnough, whole_lines};
@@ -18,12 +18,13 @@ use std::alloc::{AllocError, Global};
 
 const LINE_FEED: u8 = b'\n';
 
-/// Reads the first `most` records from the beginning of an input, and counts all records in this
-/// beginning.
+/// Reads the first `most` records of an input from its beginning `read`, and counts all records in
+/// this beginning.
 ///
-/// Only its complete lines are looked at. `None` means that they aren't enough, and that more has
-/// to be read: they hold no more than `most` records, end inside quotes, don't show the delimiter,
-/// or can't be decoded. UTF-16 always gives `None`, and so does an input whose lines end with
+/// Only the complete lines of `read` are used. `None` means that these lines aren't enough, and
+/// that more of the input has to be read. Such lines hold at most `most` records, end inside
+/// quotes, don't show the delimiter of the input, or can't be decoded or split into records. The
+/// result is always `None` for UTF-16, for `Delimiter::Spaces`, and for lines that end with
 /// carriage returns alone. The only error is that memory runs out.
 pub fn read_beginning(
     alloc: Global,
@@ -37,7 +38,7 @@ pub fn read_beginning(
         IfNone found (NoneAreEnough options.now most read.now)) }
 {
     let lines = whole_lines(read);
-    // Where lines end with line feeds, there aren't more records than these.
+    // If lines end with line feeds, there are no more records than line feeds.
     if memchr_iter(LINE_FEED, lines).count() <= most
         || encoding_of(options.encoding, lines) == Encoding::Utf16
         || !ends_with_line(below_lines(lines, options.skip))
@@ -59,7 +60,8 @@ pub fn read_beginning(
     Ok(Some(first))
 }
 
-// The text of these bytes, if they have one.
+// The text that these bytes are decoded into, or `None` if they can't be decoded. The only error is
+// that memory runs out.
 fn found_text(
     alloc: Global,
     bytes: &[u8],
@@ -79,7 +81,8 @@ fn found_text(
     }
 }
 
-// The first records of a text, if it has records.
+// The first `most` records of a text. `None` if a quote is never closed, or if the delimiter splits
+// a character. The only error is that memory runs out.
 fn found_records(
     alloc: Global,
     text: &str,
@@ -111,7 +114,7 @@ fn ends_with_line(bytes: &[u8]) -> bool
     }
 }
 
-// The bytes that were read, up to their last line feed.
+// The bytes that were read, up to their last line feed and including it; none without a line feed.
 fn whole_lines(read: &[u8]) -> &[u8]
     ensures { result.now ≡ whole_lines read.now }
 {

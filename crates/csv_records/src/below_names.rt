@@ -8,9 +8,10 @@ ghost use Rattle.csv_records.specs.BelowNames.{columns_of, columns_text, fits, n
 use crate::characters::split_first;
 use std::alloc::{AllocError, Global};
 
-/// The places, counted in characters, at which the names of the first line begin, except the first
-/// name. There are none unless there are two such names, three spaces precede each, and in all
-/// lines two spaces precede each place, and nothing begins after two spaces elsewhere.
+/// The positions in the first line, counted in characters from 0, at which names begin after three
+/// spaces or more. `None` if there are fewer than two such positions, or if a line doesn't fit
+/// them. A line fits if it has two spaces or more before each of these positions, and if nothing
+/// begins after two spaces or more at any other position. The only error is that memory runs out.
 pub(crate) fn name_starts(alloc: Global, lines: &[&str]) -> Result<Option<Vec<usize>>, AllocError>
     ensures { IfOk result (λ found. option_map (λ starts. starts.items) found
         ≡ name_starts (map (λ line. line.now) lines.now)) }
@@ -26,7 +27,8 @@ pub(crate) fn name_starts(alloc: Global, lines: &[&str]) -> Result<Option<Vec<us
     }
 }
 
-// The places at which names of a line begin after three spaces or more.
+// The positions in a line, counted in characters from 0, at which names begin after three spaces or
+// more.
 fn starts_of(alloc: Global, line: &str) -> Result<Vec<usize>, AllocError>
     ensures { IfOk result (λ starts. starts.items ≡ starts_of (chars line.now)) }
 {
@@ -34,13 +36,13 @@ fn starts_of(alloc: Global, line: &str) -> Result<Vec<usize>, AllocError>
     let mut rest = line;
     let mut at = 0;
     let mut spaces = 0usize;
-    while let Some((c, behind)) = split_first(rest) {
+    while let Some((c, after)) = split_first(rest) {
         if spaces >= 3 && c != ' ' {
             starts.push(at)?;
         }
         spaces = if c == ' ' { spaces + 1 } else { 0 };
         at += 1;
-        rest = behind;
+        rest = after;
     }
     Ok(starts)
 }
@@ -58,7 +60,7 @@ fn fits(line: &str, starts: &[usize]) -> bool
     let mut rest = line;
     let mut at = 0;
     let mut spaces = 0usize;
-    while let Some((c, behind)) = split_first(rest) {
+    while let Some((c, after)) = split_first(rest) {
         let is_fit = if starts.contains(&at) {
             spaces >= 2
         } else {
@@ -69,12 +71,14 @@ fn fits(line: &str, starts: &[usize]) -> bool
         }
         spaces = if c == ' ' { spaces + 1 } else { 0 };
         at += 1;
-        rest = behind;
+        rest = after;
     }
     true
 }
 
-/// Lines with a TAB at each of these places, and with single spaces alone.
+/// The text of `lines`, with a TAB before the character at each position of `starts`. A line feed
+/// ends each line. Single spaces before a character stay, and all other spaces are left out. A TAB
+/// in a line becomes a space. The only error is that memory runs out.
 pub(crate) fn columns_text(
     alloc: Global,
     lines: &[&str],
@@ -91,7 +95,7 @@ pub(crate) fn columns_text(
     Ok(text)
 }
 
-// Appends such a line.
+// Appends a line as `columns_text` writes it, without the line feed.
 fn push_columns(text: &mut String, line: &str, starts: &[usize]) -> Result<(), AllocError>
     ensures { OnOk result (string_bytes text.new
         ≡ string_bytes text.old ++ columns_of starts.now (chars line.now)) }
@@ -99,17 +103,18 @@ fn push_columns(text: &mut String, line: &str, starts: &[usize]) -> Result<(), A
     let mut rest = line;
     let mut at = 0;
     let mut spaces = 0usize;
-    while let Some((c, behind)) = split_first(rest) {
+    while let Some((c, after)) = split_first(rest) {
         text.push_str(if starts.contains(&at) { "\t" } else { "" })?;
         push_with_space(text, spaces, c)?;
         spaces = if c == ' ' { spaces + 1 } else { 0 };
         at += 1;
-        rest = behind;
+        rest = after;
     }
     Ok(())
 }
 
-// Appends a character of a field, after the space before it if this is a single one.
+// Appends a character of a field, and before it a space if exactly one space precedes it. Appends
+// nothing for a space, and a space for a TAB.
 fn push_with_space(text: &mut String, spaces: usize, c: char) -> Result<(), AllocError>
     ensures { OnOk result (string_bytes text.new ≡ string_bytes text.old ++ with_space spaces c) }
 {

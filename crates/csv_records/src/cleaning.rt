@@ -1,5 +1,5 @@
-//! Texts without control characters, and without those that turn the direction of text, so that a
-//! terminal shows each character in the column in which it is counted.
+//! Replaces control characters in fields, and characters that change the direction of text, so that
+//! a terminal shows each character in the terminal column that the table has for it.
 
 ghost use Rattle.std.specs.Prelude.{◌≡◌, ◌∷◌, [], IfNone, IfOk, IfSome, OnOk, chars, if◌then◌else◌, not, string_bytes};
 ghost use Rattle.std.specs.Iterator.{YieldsFirstBy, item_count};
@@ -15,13 +15,15 @@ use comfy_parts::content_split::{is_printable, measure_text_width, sequence_len}
 use std::alloc::{AllocError, Global};
 use std::marker::Model;
 
-// The terminal columns between two tab stops.
+// The number of terminal columns from one tab stop to the next.
 const TAB_WIDTH: usize = 4;
 
-/// A field as it is drawn. A TAB becomes spaces up to the next multiple of four terminal columns,
-/// by the visible part of its line since the last TAB. A line feed, a carriage return, or both in
-/// this order reversed, are one line feed. Every other control character, and each that turns the
-/// direction of text, becomes U+FFFD. SGR sequences stay if they are kept.
+/// A field as it is drawn. A TAB becomes one to four spaces, up to the next multiple of four
+/// terminal columns in its line. A line break, which is a line feed, a carriage return, or a
+/// carriage return with a line feed, becomes a line feed. Every other control character becomes
+/// U+FFFD, and so does each character that changes the direction of text (U+202A to U+202E, U+2066
+/// to U+2069). SGR sequences stay if `keeps_sequences` is true, and take no terminal columns. The
+/// only error is that memory runs out.
 pub fn cleaned(alloc: Global, field: &str, keeps_sequences: bool) -> Result<String, AllocError>
     ensures { IfOk result (λ text. string_bytes text ≡ cleaned keeps_sequences field.now) }
 {
@@ -39,15 +41,18 @@ pub fn cleaned(alloc: Global, field: &str, keeps_sequences: bool) -> Result<Stri
     Ok(cleaner.text)
 }
 
-// True if a field is drawn as it is. Most fields are printable ASCII, which is found faster.
+// True if a field is drawn as it is. Printable ASCII is tested first, because most fields consist
+// of it and this test is faster.
 fn is_clean(field: &str) -> bool
     ensures { result ≡ not (list_any is_harmful (chars field.now)) }
 {
     is_printable(field.as_bytes()) || !has_harmful(field)
 }
 
-/// Returns true if a field is one text line that is drawn as it is: no character of it is
-/// replaced, and it has no line feed. Most fields are printable ASCII, which is found faster.
+/// Returns true if a field is one line that `cleaned` leaves unchanged. Such a field has no control
+/// character, for example no line feed and no TAB, and no character that changes the direction of
+/// text. Printable ASCII is tested first, because most fields consist of it and this test is
+/// faster.
 #[inline(always)]
 pub fn is_clean_line(field: &str) -> bool
     ensures { result ≡ not (list_any is_replaced (chars field.now)) }
@@ -55,15 +60,15 @@ pub fn is_clean_line(field: &str) -> bool
     is_printable(field.as_bytes()) || !has_replaced(field)
 }
 
-// True if a field has a character that is replaced. Bytes are tested first, because few scripts
-// have characters that begin with the same bytes.
+// True if a field has a character for which `is_replaced` is true. Bytes are tested first, because
+// few scripts have characters whose UTF-8 begins with the same bytes.
 fn has_replaced(field: &str) -> bool
     ensures { result ≡ list_any is_replaced (chars field.now) }
 {
     may_hold_replaced(field.as_bytes()) && field.chars().any(is_replaced)
 }
 
-// True if there is a byte that may begin the UTF-8 of a character that is replaced.
+// True if a byte may begin the UTF-8 of a character for which `is_replaced` is true.
 fn may_hold_replaced(bytes: &[u8]) -> bool
     ensures { result ≡ list_any may_begin_replaced bytes.now }
 {
@@ -75,7 +80,7 @@ fn may_hold_replaced(bytes: &[u8]) -> bool
     found
 }
 
-// True if a byte may begin the UTF-8 of a character that is replaced.
+// True if this byte may begin the UTF-8 of a character for which `is_replaced` is true.
 fn may_begin_replaced(byte: u8) -> bool
     ensures { result ≡ may_begin_replaced byte }
 {
@@ -88,14 +93,16 @@ fn has_harmful(field: &str) -> bool
     field.chars().any(is_harmful)
 }
 
-// True if a character mustn't be drawn: another one is drawn in its place, and it breaks no line.
+// True if a character mustn't be drawn: it is a control character other than a line feed, or it
+// changes the direction of text.
 fn is_harmful(c: char) -> bool
     ensures { result ≡ is_harmful c }
 {
     is_replaced(c) && c != '\n'
 }
 
-/// Returns true if another character is drawn in place of this one.
+/// Returns true if a character is a control character, also a line feed, or changes the direction
+/// of text. Such a character isn't drawn as it is, except that a line feed breaks the line.
 fn is_replaced(c: char) -> bool
     ensures { result ≡ is_replaced c }
 {
@@ -109,14 +116,14 @@ fn turns_direction(c: char) -> bool
     matches!(c, '\u{202a}'..='\u{202e}' | '\u{2066}'..='\u{2069}')
 }
 
-// A piece of a field.
+// A piece of a field: an SGR sequence that is kept, or a character.
 #[derive(Clone, Copy)]
 enum Piece<'a> {
     Sequence(&'a str),
     Character(char),
 }
 
-// The pieces of a field that are left.
+// An iterator over the pieces of a field. `rest` is the part of the field that is left.
 #[derive(Drop)]
 struct Pieces<'a> {
     rest: &'a str,
@@ -147,7 +154,7 @@ impl<'a> Iterator for Pieces<'a> {
     }
 }
 
-// The piece at a text's front, and the rest after it.
+// The piece at the start of a text, and the text after it, or `None` if the text is empty.
 fn first_piece(text: &str, keeps_sequences: bool) -> Option<(Piece<'_>, &str)>
     ensures some { IfSome result (λ halves. pieces keeps_sequences (chars text.now)
         ≡ part_of halves.0 ∷ pieces keeps_sequences (chars halves.1.now)) }
@@ -162,7 +169,8 @@ fn first_piece(text: &str, keeps_sequences: bool) -> Option<(Piece<'_>, &str)>
     Some((Piece::Character(c), rest))
 }
 
-// The bytes of the sequence at a text's front if sequences are kept, 0 if there is none.
+// The number of bytes of the SGR sequence at the start of a text; 0 if there is none, or if
+// sequences aren't kept.
 fn kept_len(text: &str, keeps_sequences: bool) -> usize
     ensures value { result ≡ (if keeps_sequences then sequence_len text.now else 0) }
     ensures boundary { IsCharBoundary text.now result }
@@ -174,13 +182,13 @@ fn kept_len(text: &str, keeps_sequences: bool) -> usize
     }
 }
 
-// A text that is being cleaned.
+// The state while a field is cleaned: the text that is written so far, and how it goes on.
 #[derive(Drop)]
 struct Cleaner {
     text: String,
-    // the visible part of its last line since the last stop
+    // the visible part of the last line of `text`, after the last tab stop that a TAB reached
     seen: String,
-    // whether the last character was a carriage return
+    // true if the last character of the field that was read is a carriage return
     after_return: bool,
 }
 
@@ -245,7 +253,7 @@ impl Cleaner {
     }
 }
 
-// The spaces from a text's end to the next stop.
+// The spaces from the end of a text to the next tab stop. The text begins at a tab stop.
 fn blanks_after(seen: &str) -> &'static str
     ensures { result.now ≡ blanks_after seen.now }
 {
@@ -257,7 +265,7 @@ fn blanks_after(seen: &str) -> &'static str
     }
 }
 
-// A character as it is drawn.
+// U+FFFD for a character for which `is_replaced` is true, and otherwise the character itself.
 pub(crate) fn shown(c: char) -> char
     ensures { result ≡ shown c }
 {

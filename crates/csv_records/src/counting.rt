@@ -1,4 +1,4 @@
-//! The numbers of fields of the first records of a text.
+//! Counts the fields of the first records of a text.
 
 ghost use Rattle.std.specs.Prelude.{◌≡◌, IfOk, option_map, true};
 ghost use Rattle.csv.specs.Machine.{ends_with, in_field, start_field};
@@ -11,7 +11,7 @@ ghost use Rattle.csv_records.specs.Input.{config_for};
 use crate::text::without_utf8_mark;
 use std::alloc::{AllocError, Global};
 
-// The states of csv's reader that are met here.
+// The states of the reader of the crate `csv` that occur while fields are counted.
 #[derive(Clone, Copy)]
 enum State {
     StartRecord,
@@ -21,10 +21,11 @@ enum State {
     AfterQuote,
 }
 
-/// The number of fields of each of the first `most` records.
+/// The number of fields of each of the first `most` records of a text, in the order of the records.
 ///
-/// Fields are counted as the reader of the crate `csv` would count them. That reader fills tables
-/// first, which takes longer than everything else for a few records.
+/// Fields are counted as the reader of the crate `csv` would count them. That reader isn't used,
+/// because it fills tables first. For a few records this takes longer than everything else. The
+/// only error is that memory runs out.
 pub(crate) fn field_counts(
     alloc: Global,
     text: &str,
@@ -38,16 +39,17 @@ pub(crate) fn field_counts(
     let mut counts = Vec::with_capacity(alloc, most)?;
     let mut rest = without_utf8_mark(text).as_bytes();
     for _ in 0..most {
-        let Some((count, behind)) = first_count(rest, delimiter, has_quotes) else {
+        let Some((count, after)) = first_count(rest, delimiter, has_quotes) else {
             break;
         };
         counts.push(count)?;
-        rest = behind;
+        rest = after;
     }
     Ok(counts)
 }
 
-/// The number of fields of the first record of these bytes, and the bytes after it.
+/// The number of fields of the first record in these bytes, and the bytes after this record. `None`
+/// if there is no record.
 pub(crate) fn first_count(bytes: &[u8], delimiter: u8, has_quotes: bool) -> Option<(usize, &[u8])>
     ensures { option_map (λ found. (found.0, found.1.now)) result
         ≡ count_from (config_for delimiter has_quotes) st.StartRecord 1 bytes.now }
@@ -55,11 +57,11 @@ pub(crate) fn first_count(bytes: &[u8], delimiter: u8, has_quotes: bool) -> Opti
     let mut state = State::StartRecord;
     let mut count = 1;
     let mut rest = bytes;
-    'bytes: while let Some((byte, behind)) = rest.split_first() {
+    'bytes: while let Some((byte, after)) = rest.split_first() {
         let Some((next, ends_field)) = step(state, *byte, delimiter, has_quotes) else {
-            return Some((count, behind));
+            return Some((count, after));
         };
-        rest = behind;
+        rest = after;
         state = next;
         count += usize::from(ends_field);
     }
@@ -69,7 +71,7 @@ pub(crate) fn first_count(bytes: &[u8], delimiter: u8, has_quotes: bool) -> Opti
     }
 }
 
-// The state after a byte, and whether it ends a field; none if it ends a record.
+// The state after a byte, and true if the byte ends a field. `None` if the byte ends the record.
 fn step(state: State, byte: u8, delimiter: u8, has_quotes: bool) -> Option<(State, bool)>
     ensures { option_map (λ next. (state_at next.0, next.1)) result
         ≡ step (config_for delimiter has_quotes) (state_at state) byte }
@@ -101,7 +103,8 @@ fn step(state: State, byte: u8, delimiter: u8, has_quotes: bool) -> Option<(Stat
     }
 }
 
-// The state after a byte at the beginning of a field, and true if a record ends before this byte.
+// The state after a byte at the beginning of a field, and true if the byte ends this field, which
+// is then empty. `None` if the byte ends the record.
 fn start_field(byte: u8, delimiter: u8, has_quotes: bool) -> Option<(State, bool)>
     ensures { option_map (λ next. (state_at next.0, next.1)) result
         ≡ after_step (start_field (config_for delimiter has_quotes) byte) }
@@ -113,7 +116,8 @@ fn start_field(byte: u8, delimiter: u8, has_quotes: bool) -> Option<(State, bool
     }
 }
 
-// The state after a byte inside an unquoted field, where a quote is an ordinary byte.
+// The state after a byte in an unquoted field, and true if the byte ends this field. `None` if the
+// byte ends the record. A quote is an ordinary byte here.
 fn in_field(byte: u8, delimiter: u8) -> Option<(State, bool)>
     ensures { option_map (λ next. (state_at next.0, next.1)) result
         ≡ after_step (in_field (config_for delimiter true) byte) }
@@ -127,7 +131,7 @@ fn in_field(byte: u8, delimiter: u8) -> Option<(State, bool)>
     }
 }
 
-// True if a byte ends a line.
+// True for a line feed and for a carriage return.
 pub(crate) fn ends_line(byte: u8) -> bool
     ensures { result ≡ ends_with term.CRLF byte }
 {

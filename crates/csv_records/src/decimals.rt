@@ -1,51 +1,58 @@
-//! The decimal mark of a column of numbers, so that fractions are below each other.
+//! Finds the decimal mark of a column of numbers, and the spaces after fields that put the decimal
+//! marks of the column below each other.
 
 ghost use Rattle.std.specs.Prelude.{◌≡◌, ◌<◌, ◌==◌, ◌&&◌, ◌||◌, ◌∷◌, ◌++◌, ℕ, Bool, List, [], chars, false, max, not, true};
 ghost use Rattle.std.specs.Char.{is_ascii_digit};
 ghost use Rattle.csv_records.specs.Number.{begins, ends, halves};
-ghost use Rattle.csv_records.specs.Decimals.{byte_of, decides, digits_in, fraction_len, fraction_of, has_mark, is_plain, is_read, marks_of, may_be_whole, number_of, points_for, spaces_behind, use_with};
+ghost use Rattle.csv_records.specs.Decimals.{byte_of, decides, digits_in, fraction_len, fraction_of, has_mark, is_plain, is_readable, marks_of, may_be_whole, number_of, points_for, trailing_spaces, use_with};
 
 use crate::field_number::{FieldNumber, Fraction, fraction_len};
 use crate::number::{has_groups, is_bare_neutral, is_neutral, parts_of, split_last, trimmed};
 
-/// A decimal mark.
+/// The character before the fraction of a number: a point or a comma.
 #[derive(Clone, Copy, Debug, PartialEq, Eq)]
 pub enum DecimalMark {
-    /// `.`
+    /// The decimal mark is a point, `.`.
     Point,
-    /// `,`
+    /// The decimal mark is a comma, `,`.
     Comma,
 }
 
-/// The decimal mark of a column, and the room of its longest fraction.
+/// The decimal mark of a column of numbers, and the length of the longest fraction in the column.
+/// `trailing_spaces` finds the spaces after fields that put the decimal marks below each other.
 #[derive(Clone, Copy, Debug, PartialEq, Eq)]
 pub struct Points {
-    /// The mark.
+    /// The decimal mark of the numbers in the column.
     pub mark: DecimalMark,
-    /// The characters of the longest fraction, including the mark.
+    /// The length of the longest fraction in the column, in characters, including its decimal mark.
     pub longest: usize,
 }
 
-/// The use of a mark by the fields of a column.
+/// A summary of the fields of a column for one possible decimal mark, which is a point or a comma.
 #[derive(Clone, Copy, Debug)]
-pub struct MarkUse {
-    /// True if a field can only be read with this mark.
-    pub is_decided: bool,
-    /// True if all fields can be read with this mark.
-    pub is_read: bool,
-    /// The characters of the longest fraction, including the mark.
+pub struct MarkSummary {
+    /// True if at least one field needs this mark as its decimal mark, as `1,5` needs the comma.
+    /// `1,234` doesn't need the comma, because it can also be a whole number.
+    pub is_needed: bool,
+    /// True if each field can be read with this mark as its decimal mark. A field without the mark
+    /// can be read so. `1.234.567` can't be read with the point.
+    pub is_readable: bool,
+    /// The length of the longest fraction in bytes, including the mark; 0 if no field has the mark.
+    /// If `is_readable` is true, this is also the number of characters.
     pub longest: usize,
 }
 
-/// The signs of a decimal mark in the fields of a column.
+/// Facts about the fields of a column. `add` adds a field, and `points` finds the decimal mark of
+/// the fields that were added.
 #[derive(Clone, Copy, Debug)]
 pub struct ColumnMarks {
-    /// True if all fields are neutral, or numbers that end with a digit and have no exponent.
+    /// True if each field is neutral (`is_neutral`), or a number that ends with a digit and has no
+    /// exponent.
     pub are_plain: bool,
-    /// The use of a point.
-    pub point: MarkUse,
-    /// The use of a comma.
-    pub comma: MarkUse,
+    /// The summary of the fields for the point as the decimal mark.
+    pub point: MarkSummary,
+    /// The summary of the fields for the comma as the decimal mark.
+    pub comma: MarkSummary,
 }
 
 impl DecimalMark {
@@ -61,10 +68,11 @@ impl DecimalMark {
 }
 
 impl Points {
-    /// How many spaces are after a field of the column, so that its mark is below those of
-    /// the others.
-    pub fn spaces_behind(self, field: &str) -> usize
-        ensures { result ≡ spaces_behind self field.now }
+    /// The number of spaces to write after a field of the column, so that its decimal mark is below
+    /// the marks of the other fields if all are right-aligned. A number without the mark gets
+    /// `longest` spaces. A neutral field (`is_neutral`) gets none.
+    pub fn trailing_spaces(self, field: &str) -> usize
+        ensures { result ≡ trailing_spaces self field.now }
     {
         let text = trimmed(field);
         if is_bare_neutral(text) {
@@ -77,50 +85,52 @@ impl Points {
     }
 }
 
-impl MarkUse {
-    fn new() -> MarkUse
-        ensures { result ≡ record { is_decided = false; is_read = true; longest = 0 } }
+impl MarkSummary {
+    fn new() -> MarkSummary
+        ensures { result ≡ record { is_needed = false; is_readable = true; longest = 0 } }
     {
-        MarkUse {
-            is_decided: false,
-            is_read: true,
+        MarkSummary {
+            is_needed: false,
+            is_readable: true,
             longest: 0,
         }
     }
 
-    // Adds the digits of one field more. Those without the mark are no sign of it.
+    // Adds the digits of a field to the summary. Digits without the mark change nothing.
     fn add(&mut self, field: &str, fraction: Fraction, mark: DecimalMark)
         ensures { fraction ≡ fraction_of (halves (byte_of mark) (digits_in field.now))
             → self.new ≡ use_with mark self.old (digits_in field.now) }
     {
         if fraction.len > 0 {
-            self.is_decided = self.is_decided || decides(field, fraction);
-            self.is_read = self.is_read && fraction.is_read;
+            self.is_needed = self.is_needed || decides(field, fraction);
+            self.is_readable = self.is_readable && fraction.is_readable;
             self.longest = self.longest.max(fraction.len);
         }
     }
 
-    // True if this mark is the one of the column, given the use of the other mark.
-    fn has_mark(self, other: MarkUse) -> bool
+    // True if this mark is the decimal mark of the column. `other` is the summary for the other
+    // mark.
+    fn has_mark(self, other: MarkSummary) -> bool
         ensures { result ≡ has_mark self other }
     {
-        self.is_decided && self.is_read && !other.is_decided
+        self.is_needed && self.is_readable && !other.is_needed
     }
 }
 
 impl ColumnMarks {
-    /// The signs in no field.
+    /// The facts about a column without fields.
     pub fn new() -> ColumnMarks
         ensures { result ≡ marks_of [] }
     {
         ColumnMarks {
             are_plain: true,
-            point: MarkUse::new(),
-            comma: MarkUse::new(),
+            point: MarkSummary::new(),
+            comma: MarkSummary::new(),
         }
     }
 
-    /// Adds one field more, by its reading as a number.
+    /// Adds a field of the column to the facts. `number` has to be the result of `number_in` for
+    /// this field.
     pub fn add(&mut self, field: &str, number: FieldNumber)
         ensures { number ≡ number_of field.now → (fields : List (List ℕ))
             → self.old ≡ marks_of fields → self.new ≡ marks_of (fields ++ field.now ∷ []) }
@@ -130,7 +140,9 @@ impl ColumnMarks {
         self.comma.add(field, number.comma, DecimalMark::Comma);
     }
 
-    /// The decimal mark of the column, if its fields have one.
+    /// The decimal mark of the column, and the length of its longest fraction. The mark is that
+    /// which a field needs, and with which all fields can be read. `None` if there is no such mark,
+    /// if a field needs the other mark, or if `are_plain` is false.
     pub fn points(self) -> Option<Points>
         ensures { result ≡ points_for self }
     {
@@ -152,7 +164,7 @@ impl ColumnMarks {
     }
 }
 
-// A number that ends with a digit and has no exponent, or a field that says nothing.
+// True for a number that ends with a digit and has no exponent, and for a neutral field.
 fn is_plain(field: &str, number: FieldNumber) -> bool
     ensures { number ≡ number_of field.now → result ≡ is_plain field.now }
 {
@@ -165,14 +177,15 @@ fn ends_with_digit(field: &str) -> bool
     matches!(split_last(field), Some((_, c)) if c.is_ascii_digit())
 }
 
-// True if the mark of a field can only be the beginning of a fraction.
+// True if the mark of this fraction in a field can only begin a fraction, and not separate groups.
 fn decides(field: &str, fraction: Fraction) -> bool
-    ensures { result ≡ fraction.is_read && not (may_be_whole (digits_in field.now)) }
+    ensures { result ≡ fraction.is_readable && not (may_be_whole (digits_in field.now)) }
 {
-    fraction.is_read && !may_be_whole(digits_in(field))
+    fraction.is_readable && !may_be_whole(digits_in(field))
 }
 
-// The digits of a field, with their marks.
+// The digits of a field with the marks between them: from the first digit or decimal mark to the
+// last.
 fn digits_in(field: &str) -> &str
     ensures { result.now ≡ digits_in field.now }
 {
@@ -180,7 +193,7 @@ fn digits_in(field: &str) -> &str
     digits
 }
 
-// True if digits may be groups of a whole number.
+// True if digits may be a whole number in groups, as `1,234`.
 fn may_be_whole(digits: &str) -> bool
     ensures { result ≡ may_be_whole digits.now }
 {

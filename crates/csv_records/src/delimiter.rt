@@ -1,8 +1,8 @@
-//! The delimiter between the fields of a text.
+//! Finds the delimiter between the fields of a text.
 
 ghost use Rattle.std.specs.Prelude.{◌≡◌, ◌==◌, IfOk, option_map};
 ghost use Rattle.std.specs.List.{count_by, list_all};
-ghost use Rattle.csv_records.specs.Delimiter.{IsAsciiUnlessAsked, agreement, delimited, delimiter_in, found_delimiter, has_first_records, named_delimiter, only_ascii, shows_delimiter, tried_delimiters};
+ghost use Rattle.csv_records.specs.Delimiter.{IsAsciiUnlessSet, agreement, delimited, delimiter_in, found_delimiter, has_first_records, named_delimiter, only_ascii, shows_delimiter, tried_delimiters};
 ghost use Rattle.csv_records.specs.Lines.{EndsIn};
 
 use crate::counting::field_counts;
@@ -10,30 +10,35 @@ use crate::lines::split_line;
 use crate::text::without_utf8_mark;
 use std::alloc::{AllocError, Global};
 
-/// The delimiter between the fields of a record.
+/// The delimiter between the fields of a record, or the rule that finds this delimiter.
 #[derive(Clone, Copy, Debug)]
 pub enum Delimiter {
-    /// This byte.
+    /// The delimiter is this byte.
     Byte(u8),
-    /// The one that a first line `sep=X` names, else one that most of the first records agree on,
-    /// else a comma.
+    /// The delimiter is X if the first line is `sep=X`. Otherwise TAB, `;`, `,` and `|` are tried.
+    /// The count for each is how many of the first ten records have the same number of fields, at
+    /// least two. The delimiter is the first with the highest count, or a comma if all counts are
+    /// 0.
     Auto,
-    /// The one that a first line `sep=X` names, else TAB.
+    /// The delimiter is X if the first line is `sep=X`, and otherwise TAB.
     NamedOrTab,
-    /// Runs of spaces and TABs, as `df -h` and `ps aux` write. White space at the ends of a
-    /// line doesn't count, the last column takes all that is left of it, and quotes are characters
-    /// like others.
+    /// Runs of spaces and TABs separate fields, as in the output of `df -h` and `ps aux`. White
+    /// space at the ends of a line is ignored, and quotes are ordinary characters. The last column
+    /// takes the rest of a line. Fields may have single spaces if all are below the names of the
+    /// first line, as in the output of `docker ps`.
     Spaces,
 }
 
-/// The byte between the fields of a text, and the text of its records: all of it, or the rest after
-/// a first line `sep=X`.
+/// The byte between the fields of a text, and the part of the text that has its records. This part
+/// is the whole text, or the text after a first line `sep=X`.
 ///
-/// Such a line is looked for unless a byte is given, also after a byte-order mark. X is one ASCII
-/// character that is no quote. The letters may be capitals.
+/// A line `sep=X` is looked for with `Auto` and `NamedOrTab`, also after a byte-order mark. X is
+/// one ASCII character other than a double quote and a line end. The letters of `sep` may be
+/// capitals.
 ///
-/// `Auto` tries TAB, `;`, `,` and `|`. For each it counts how many of the first ten records have
-/// the same number of fields, at least two. It takes the first one with the highest count.
+/// `Auto` tries TAB, `;`, `,` and `|`. For each of them it counts how many of the first ten records
+/// have the same number of fields, at least two. The byte is the first with the highest count, or a
+/// comma if all counts are 0. For `Spaces` the byte is TAB. The only error is that memory runs out.
 pub(crate) fn delimited<'a>(
     alloc: Global,
     text: &'a str,
@@ -44,7 +49,7 @@ pub(crate) fn delimited<'a>(
     ensures records { IfOk result (λ parts. parts.1.now
         ≡ (delimited delimiter has_quotes text.now).1) }
     ensures end { IfOk result (λ parts. EndsIn text.now parts.1.now) }
-    ensures ascii { IfOk result (λ parts. IsAsciiUnlessAsked delimiter parts.0) }
+    ensures ascii { IfOk result (λ parts. IsAsciiUnlessSet delimiter parts.0) }
 {
     match delimiter {
         Delimiter::Byte(byte) => Ok((byte, text)),
@@ -56,15 +61,16 @@ pub(crate) fn delimited<'a>(
             Some(parts) => Ok(parts),
             None => Ok((b'\t', text)),
         },
-        // Its text has TABs between fields by then.
+        // The text has TABs between its fields by then.
         Delimiter::Spaces => Ok((b'\t', text)),
     }
 }
 
-/// Returns true if a text of complete lines shows its delimiter, whatever follows. It does so if
-/// the delimiter is a given byte other than a line feed, if the first line names it or else it is
-/// TAB, or if each byte that is tried gives more records than are looked at. If spaces separate
-/// fields, a text is read whole.
+/// Returns true if the complete lines `text` at the beginning of an input show its delimiter,
+/// whatever follows. The result is true for a `Byte` other than a line feed, and for `NamedOrTab`.
+/// For `Auto` the result is true if the first line names the delimiter, or if `text` has more than
+/// ten records with each delimiter that is tried. For `Spaces` the result is false, because such an
+/// input is read whole.
 pub(crate) fn shows_delimiter(
     alloc: Global,
     text: &str,
@@ -83,7 +89,8 @@ pub(crate) fn shows_delimiter(
     }
 }
 
-// The delimiter that a first line names, and the rest after that line.
+// The delimiter that the first line of a text names, and the text after this line. `None` if the
+// first line isn't `sep=X`.
 fn named_delimiter(text: &str) -> Option<(u8, &str)>
     ensures { option_map (λ parts. (parts.0, parts.1.now)) result ≡ named_delimiter text.now }
 {
@@ -94,7 +101,7 @@ fn named_delimiter(text: &str) -> Option<(u8, &str)>
 // The word before a delimiter that a line names, in letters of either case.
 const NAMING_WORD: &[u8] = b"sep=";
 
-// The delimiter that a line names.
+// The delimiter that a line names, or `None` if the line isn't `sep=X`.
 fn delimiter_in(line: &[u8]) -> Option<u8>
     ensures { result ≡ delimiter_in line.now }
 {
@@ -106,7 +113,9 @@ fn delimiter_in(line: &[u8]) -> Option<u8>
     }
 }
 
-// The ASCII character that is all of a word, if it may separate fields.
+/// The byte of a word of one byte, if this byte may separate fields. `None` if the word is empty or
+/// has several bytes, or if its byte is a double quote, a line feed, a carriage return or not
+/// ASCII.
 pub fn only_ascii(word: &[u8]) -> Option<u8>
     ensures { result ≡ only_ascii word.now }
 {
@@ -120,10 +129,11 @@ pub fn only_ascii(word: &[u8]) -> Option<u8>
 // The delimiters that are tried, in this order.
 const TRIED: [u8; 4] = [b'\t', b';', b',', b'|'];
 
-// The number of records that are looked at.
+// The number of first records whose numbers of fields are compared.
 const FIRST_RECORDS: usize = 10;
 
-// The first of them by which the most records agree, a comma if none do.
+// The first of the `TRIED` delimiters with which the most of the first records have the same number
+// of fields, at least two. A comma if there are no such records.
 fn found_delimiter(alloc: Global, text: &str, has_quotes: bool) -> Result<u8, AllocError>
     ensures { IfOk result (λ delimiter. delimiter ≡ found_delimiter has_quotes text.now) }
 {
@@ -140,7 +150,8 @@ fn found_delimiter(alloc: Global, text: &str, has_quotes: bool) -> Result<u8, Al
     Ok(found)
 }
 
-// The number of records with the most common number of fields above 1.
+// The number of records that have the most common number of fields above 1. `counts` are the
+// numbers of fields of the records.
 fn agreement(counts: &[usize]) -> usize
     ensures { result ≡ agreement counts.now }
 {
@@ -160,7 +171,7 @@ fn alike(counts: &[usize], wanted: usize) -> usize
     counts.iter().filter(|count| **count == wanted).count()
 }
 
-// Each delimiter that is tried gives more records than are looked at.
+// True if a text has more than `FIRST_RECORDS` records with each delimiter that is tried.
 fn each_has_first_records(alloc: Global, text: &str, has_quotes: bool) -> Result<bool, AllocError>
     ensures { IfOk result (λ is. is
         ≡ list_all (has_first_records has_quotes text.now) tried_delimiters) }

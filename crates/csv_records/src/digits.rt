@@ -1,11 +1,12 @@
-//! Numbers of digits alone.
+//! Reads numbers that are written with digits alone.
 
 ghost use Rattle.std.specs.Prelude.{◌≡◌};
 ghost use Rattle.csv_records.specs.Numerals.{number_for};
 
 use comfy_parts::content_split::are_digits;
 
-/// The number that a word is. `parse` alone would take a plus sign too.
+/// The value of a word that is a number in ASCII digits. `None` if the word is empty, has another
+/// character, or is too large for `usize`. `parse` alone would also accept a plus sign.
 #[tactic(auto, using(crate::proofs::NumeralLemmas::other, crate::proofs::NumeralLemmas::parsed))]
 pub fn parse_digits(word: &str) -> Option<usize>
     ensures { result ≡ number_for 64 word.now }

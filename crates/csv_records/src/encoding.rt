@@ -1,4 +1,4 @@
-//! The text of an input, by its encoding.
+//! Decodes the bytes of an input into a text.
 
 ghost use Rattle.std.specs.Prelude.{◌≡◌, ◌-◌, ◌≤◌, ◌==◌, ◌∷◌, IfErr, IfOk, IsUtf8, drop, is_some, length, string_bytes};
 ghost use Rattle.std.specs.Iterator.{YieldsFirst, item_count};
@@ -21,26 +21,27 @@ use std::marker::Model;
 pub enum Encoding {
     /// UTF-8. A byte-order mark is part of the text.
     Utf8,
-    /// Windows-1252. The five bytes that it leaves open are U+FFFD: 0x81, 0x8D, 0x8F, 0x90 and
-    /// 0x9D.
+    /// Windows-1252. Its five undefined bytes, 0x81, 0x8D, 0x8F, 0x90 and 0x9D, are decoded as
+    /// U+FFFD.
     Cp1252,
-    /// UTF-16, its bytes in the order that the byte-order mark tells, and little-endian without
-    /// one. The mark isn't part of the text.
+    /// UTF-16. A byte-order mark gives the order of the bytes, and isn't part of the text. Without
+    /// a mark the bytes are little-endian.
     Utf16,
 }
 
-/// The text of an input after the lines that are left out.
+/// The text of an input after its first `options.skip` lines, which are left out.
 ///
-/// If no encoding is given, an input that begins with a byte-order mark of UTF-16 is UTF-16, and
-/// any other one is UTF-8, unless its bytes show that it is no text. An input in UTF-8 becomes its
-/// text without a copy, if no line is left out.
+/// If no encoding is set, an input that begins with a byte-order mark of UTF-16 is UTF-16. Any
+/// other input is then UTF-8, unless its bytes show another kind of file. If no line is left out,
+/// the bytes of an input in UTF-8 become the text without a copy.
 ///
 /// # Errors
 ///
-/// - `NotUtf8`, `NotUtf16`: the bytes aren't in the encoding. In UTF-16 this is a surrogate without
-///   a partner, or an odd number of bytes.
-/// - `NotText`: no encoding is given, and the bytes are those of another kind of file.
-/// - `OutOfMemory`
+/// - `NotUtf8`, `NotUtf16`: the bytes aren't valid in the encoding. In UTF-16 this is a surrogate
+///   without a partner, or an odd byte at the end.
+/// - `NotText`: no encoding is set, there is no byte-order mark of UTF-16, and the bytes are those
+///   of another kind of file.
+/// - `OutOfMemory`: there isn't enough memory for the text.
 pub fn decoded(alloc: Global, input: Vec<u8>, options: &InputOptions) -> Result<String, DecodeError>
     ensures text { IfOk result (λ text. IsDecodedBy options.now input.items (string_bytes text)) }
     ensures not_copied { IfOk result (λ text.
@@ -55,7 +56,7 @@ pub fn decoded(alloc: Global, input: Vec<u8>, options: &InputOptions) -> Result<
     text_below(alloc, input, encoding, options.skip)
 }
 
-// The text in an encoding, below this many lines.
+// The text of an input in an encoding, after its first `skip` lines.
 fn text_below(
     alloc: Global,
     input: Vec<u8>,
@@ -75,7 +76,8 @@ fn text_below(
     }
 }
 
-/// The encoding that is given, or else found.
+/// The encoding of an input: `encoding`, if it is set. Otherwise the encoding is UTF-16 if the
+/// input begins with a byte-order mark of UTF-16, and else UTF-8.
 pub(crate) fn encoding_of(encoding: Option<Encoding>, input: &[u8]) -> Encoding
     ensures { result ≡ encoding_of encoding input.now }
 {
@@ -93,7 +95,7 @@ pub(crate) fn is_marked(input: &[u8]) -> bool
     marked_order(input).is_some()
 }
 
-// The text in UTF-8 below this many lines, which is the input itself if none are left out.
+// The text of an input in UTF-8 after its first `skip` lines. If `skip` is 0, no byte is copied.
 fn utf8_text(input: Vec<u8>, skip: usize) -> Result<String, DecodeError>
     ensures text { IfOk result (λ text. string_bytes text ≡ below_lines skip input.items) }
     ensures not_copied { IfOk result (λ text. skip ≡ 0 → string_vec text ≡ input) }
@@ -105,7 +107,7 @@ fn utf8_text(input: Vec<u8>, skip: usize) -> Result<String, DecodeError>
     Ok(unsafe { String::from_utf8_unchecked(bytes) })
 }
 
-// The last bytes, as many as this.
+// The last `len` bytes, in the same memory.
 fn last_bytes(mut bytes: Vec<u8>, len: usize) -> Vec<u8>
     requires within { len ≤ length bytes.items }
     ensures items { result.items ≡ drop (length bytes.items - len) bytes.items }
@@ -119,7 +121,7 @@ fn last_bytes(mut bytes: Vec<u8>, len: usize) -> Vec<u8>
     bytes
 }
 
-// The characters of Windows-1252 for 0x80 to 0x9F, U+FFFD for the five open ones.
+// The characters of Windows-1252 for 0x80 to 0x9F; U+FFFD for the five undefined bytes.
 const CP1252_FROM_80: [char; 32] = [
     '\u{20AC}', '\u{FFFD}', '\u{201A}', '\u{0192}', '\u{201E}', '\u{2026}', '\u{2020}', '\u{2021}',
     '\u{02C6}', '\u{2030}', '\u{0160}', '\u{2039}', '\u{0152}', '\u{FFFD}', '\u{017D}', '\u{FFFD}',
@@ -127,7 +129,7 @@ const CP1252_FROM_80: [char; 32] = [
     '\u{02DC}', '\u{2122}', '\u{0161}', '\u{203A}', '\u{0153}', '\u{FFFD}', '\u{017E}', '\u{0178}',
 ];
 
-// The text in Windows-1252.
+// The text of an input in Windows-1252.
 fn cp1252_text(alloc: Global, input: &[u8]) -> Result<String, DecodeError>
     ensures text { IfOk result (λ text. string_bytes text ≡ cp1252_text input.now) }
     ensures refused { IfErr result (λ e. e ≡ DecodeError.OutOfMemory) }
@@ -139,7 +141,7 @@ fn cp1252_text(alloc: Global, input: &[u8]) -> Result<String, DecodeError>
     Ok(text)
 }
 
-// The character for a byte of it.
+// The character for a byte in Windows-1252.
 fn cp1252_character(byte: u8) -> char
     ensures { result ≡ cp1252_character byte }
 {
@@ -149,14 +151,15 @@ fn cp1252_character(byte: u8) -> char
     }
 }
 
-// The order of a unit's two bytes.
+// The order of the two bytes of a unit of UTF-16.
 #[derive(Clone, Copy)]
 enum ByteOrder {
     LittleEndian,
     BigEndian,
 }
 
-// The order that a byte-order mark at the front tells.
+// The order of bytes that the byte-order mark at the start of an input gives. `None` without a
+// mark.
 fn marked_order(input: &[u8]) -> Option<ByteOrder>
     ensures { result ≡ marked_order input.now }
 {
@@ -167,14 +170,14 @@ fn marked_order(input: &[u8]) -> Option<ByteOrder>
     }
 }
 
-// The order that it tells, or that is taken without one.
+// The order of bytes that the byte-order mark of an input gives, or little-endian without a mark.
 fn order_of(input: &[u8]) -> ByteOrder
     ensures { result ≡ order_of input.now }
 {
     marked_order(input).unwrap_or(ByteOrder::LittleEndian)
 }
 
-// The bytes after the mark.
+// The input after the byte-order mark, or the whole input if it has no mark.
 fn without_utf16_mark(input: &[u8]) -> &[u8]
     ensures { result.now ≡ without_utf16_mark input.now }
 {
@@ -184,7 +187,7 @@ fn without_utf16_mark(input: &[u8]) -> &[u8]
     }
 }
 
-// The text in UTF-16 below this many lines.
+// The text of an input in UTF-16, after its first `skip` lines.
 fn utf16_text(alloc: Global, input: &[u8], skip: usize) -> Result<String, DecodeError>
     ensures text { IfOk result (λ text.
         AreCharactersOf (utf16_characters skip input.now) (string_bytes text)) }
@@ -206,14 +209,15 @@ fn utf16_text(alloc: Global, input: &[u8], skip: usize) -> Result<String, Decode
     Ok(text)
 }
 
-// The error if no character follows these, which are below this many lines.
+// The error if the unit or byte after the text `before` isn't part of a character. `above` is the
+// number of lines of the input before this text.
 fn not_utf16(above: usize, before: &str) -> DecodeError
     ensures { result ≡ DecodeError.NotUtf16 (line_number above before.now) }
 {
     DecodeError::NotUtf16(line_number(above, before.as_bytes()))
 }
 
-// The units below the first `count` lines.
+// The units after the first `count` lines.
 fn units_below(units: Units<'_>, count: usize) -> Units<'_>
     ensures { result ≡ below_lines count units.entry }
 {
@@ -227,7 +231,8 @@ fn units_below(units: Units<'_>, count: usize) -> Units<'_>
     rest
 }
 
-// The units of bytes that are left; an odd byte at the end is in none.
+// An iterator over the units of UTF-16 in `bytes`, each of two bytes. An odd byte at the end is in
+// no unit.
 #[derive(Drop)]
 struct Units<'a> {
     bytes: &'a [u8],
@@ -250,7 +255,7 @@ impl<'a> Units<'a> {
         self.bytes.len() < 2
     }
 
-    // The rest after the first line and its end.
+    // The units after the first line and its end.
     fn below_line(self) -> Units<'a>
         ensures { result ≡ below_line self.entry }
     {
@@ -260,14 +265,15 @@ impl<'a> Units<'a> {
                 return rest;
             }
             if unit == 0x0D {
-                return rest.behind_feed();
+                return rest.after_feed();
             }
         }
         rest
     }
 
-    // The rest after the line end of which a carriage return was read.
-    fn behind_feed(self) -> Units<'a>
+    // The units after a line end whose carriage return was read before: without a line feed at the
+    // start.
+    fn after_feed(self) -> Units<'a>
         ensures { result ≡ drop (end_len (0x0D ∷ self.entry) - 1) self.entry }
     {
         match self.bytes {
@@ -296,7 +302,7 @@ impl<'a> Iterator for Units<'a> {
     }
 }
 
-// The unit of these two bytes.
+// The unit of UTF-16 that two bytes are in this order.
 fn unit(order: ByteOrder, first: u8, second: u8) -> u16
     ensures { result ≡ unit order first second }
 {

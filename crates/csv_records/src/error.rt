@@ -1,4 +1,5 @@
-//! Why an input has no text, and a text no records.
+//! The errors for an input that can't be decoded into a text, and for a text that can't be split
+//! into records.
 
 ghost use Rattle.std.specs.Prelude.{◌≡◌};
 ghost use Rattle.csv_records.specs.declared.error.DecodeError.TheVariants as decode;
@@ -8,42 +9,47 @@ use crate::not_text::NotText;
 use std::alloc::{AllocError, AllocFailed};
 use thiserror::Error;
 
-/// Why an input has no text. Lines count from 1, those that are left out too. A line ends at a line
-/// feed, a carriage return, or a carriage return with a line feed, also between quotes.
+/// The reason why an input can't be decoded into a text. Lines are counted from 1, including the
+/// lines that `InputOptions::skip` leaves out. A line ends at a line feed, a carriage return, or a
+/// carriage return with a line feed, also between quotes.
 #[derive(Clone, Copy, Debug, PartialEq, Eq, Error)]
 pub enum DecodeError {
-    /// No encoding is given, and the input's bytes are those of another kind of file than text.
+    /// The bytes show that the input isn't CSV in UTF-8, and neither the options nor a byte-order
+    /// mark of UTF-16 gives its encoding. The value is the kind of the input.
     #[error("{0}")]
     NotText(NotText),
-    /// The input isn't UTF-8.
+    /// The input is read as UTF-8, and has a byte that isn't valid in UTF-8. Bytes in lines that
+    /// `InputOptions::skip` leaves out don't count.
     #[error("line {line} isn't UTF-8")]
     NotUtf8 {
-        /// The line of the first byte that is no text.
+        /// The number of the line with the first byte that isn't valid in UTF-8.
         line: u64,
-        /// True if a text in Windows-1252 could have each of the bytes: no control character except
-        /// TAB, line feed, form feed and carriage return, and no undefined byte.
+        /// True if each byte that is read could be part of a text in Windows-1252. Such a byte is
+        /// defined there, and is no control character except TAB, line feed, form feed and carriage
+        /// return.
         may_be_cp1252: bool,
     },
-    /// The input isn't UTF-16: in this line is the first surrogate without a partner, or an odd
-    /// byte at the end.
+    /// The input is read as UTF-16, but isn't valid in UTF-16. The value is the number of the line
+    /// with the first surrogate without a partner, or with an odd byte at the end of the input.
     #[error("line {0} isn't UTF-16")]
     NotUtf16(u64),
-    /// There was no memory for the text.
+    /// There wasn't enough memory for the text.
     #[error("out of memory")]
     OutOfMemory,
 }
 
-/// Why a text has no records.
+/// The reason why a text can't be split into records.
 #[derive(Clone, Copy, Debug, PartialEq, Eq, Error)]
 pub enum RecordsError {
-    /// A quote that opens a field in this line is never closed. Lines are counted as for
-    /// `DecodeError`.
+    /// A quote that opens a field is never closed. The value is the number of the line with this
+    /// quote, counted as for `DecodeError`.
     #[error("a quote that opens in line {0} is never closed")]
     Unclosed(u64),
-    /// The delimiter isn't ASCII, and is inside a character of a record.
+    /// The delimiter isn't ASCII, and splits a character: it is one of the bytes of the character's
+    /// UTF-8.
     #[error("the delimiter splits a character")]
     SplitCharacter,
-    /// There was no memory for the records.
+    /// There wasn't enough memory for the records.
     #[error("out of memory")]
     OutOfMemory,
 }

@@ -1,4 +1,4 @@
-//! The reading of a field as a number, in one pass.
+//! Reads a field as a number: whether it is one, and which fraction it has with each decimal mark.
 
 ghost use Rattle.std.specs.Prelude.{◌≡◌, ◌<◌, ◌||◌, IfSome, length, true};
 ghost use Rattle.std.specs.Char.{is_ascii_digit};
@@ -7,45 +7,49 @@ ghost use Rattle.csv_records.specs.Decimals.{fraction_len, fraction_of, number_o
 ghost use Rattle.csv_records.specs.Number.{halves, is_figure, is_inner, is_number, is_scientific, is_written, unsigned};
 
 use crate::number::{
-    is_decimal, is_digits, is_fraction, is_inner, is_name, is_scientific, may_stand_around,
-    parts_of, position_of, trimmed,
+    is_decimal, is_digits, is_fraction, is_inner, is_name, is_scientific, may_be_around, parts_of,
+    position_of, trimmed,
 };
 use comfy_parts::content_split::are_digits;
 
-/// The reading of a field as a number.
+/// Facts about a field as a number, as `number_in` finds them.
 #[derive(Clone, Copy, Debug)]
 pub struct FieldNumber {
-    /// True if the field is a number.
+    /// True if the field is a number, as defined for `is_number`.
     pub is_number: bool,
-    /// True if the field is a number without exponent.
+    /// True if the field is a number without an exponent.
     pub is_decimal: bool,
-    /// True if the field has only digits, decimal marks, `-` and `+`.
+    /// True if each character of the field is an ASCII digit, `.`, `,`, `-` or `+`.
     pub is_bare: bool,
-    /// The use of a point by its digits.
+    /// The fraction that the field has if the point is the decimal mark.
     pub point: Fraction,
-    /// The use of a comma by its digits.
+    /// The fraction that the field has if the comma is the decimal mark.
     pub comma: Fraction,
 }
 
-/// The use of a decimal mark by the digits of a field.
+/// The fraction that a field has if a given character, a point or a comma, is the decimal mark.
 #[derive(Clone, Copy, Debug)]
 pub struct Fraction {
-    /// The characters of the mark and the digits after it; 0 without the mark.
+    /// The length of the fraction in bytes: from the first mark of this kind to the end of the
+    /// digits, including the mark. 0 if the digits don't have the mark.
     pub len: usize,
-    /// True if the digits can be read with this mark, also if they don't have it.
-    pub is_read: bool,
+    /// True if the digits can be read with this decimal mark. This is so for digits without the
+    /// mark. `1.234.567` can't be read with the point.
+    pub is_readable: bool,
 }
 
-// The use of a mark that isn't there.
+// The fraction of digits that don't have the mark.
 const NO_FRACTION: Fraction = Fraction {
     len: 0,
-    is_read: true,
+    is_readable: true,
 };
 
-/// Returns true if a field is a number: digits, perhaps with a sign, a decimal mark, an exponent
-/// and groups, and with one currency, or `%` or a unit of sizes or times. A number without sign may
-/// be in parentheses. Spaces around it don't count. Names such as `0042` aren't numbers, nor
-/// are dates, addresses and versions.
+/// Returns true if a field is a number: digits, perhaps with a sign, a decimal mark, groups and an
+/// exponent. A currency, `%`, or a unit of sizes or times may be next to the digits. A number
+/// without a sign may be in parentheses. Spaces, TABs and line breaks around the field don't count.
+/// Digits that begin with `0` and another digit, such as `0042`, are no number. Dates, addresses
+/// such as `192.168.100.200`, and versions such as `1.2.3` are no numbers either. Each of these
+/// calls returns true:
 ///
 /// ```
 /// is_number("-1_000.5e3")
@@ -58,11 +62,12 @@ pub fn is_number(field: &str) -> bool
     ensures { result ≡ is_number field.now }
 {
     let (front, digits, back) = parts_of(trimmed(field));
-    may_stand_around(front, back) && figure_number(digits, false).is_number
+    may_be_around(front, back) && figure_number(digits, false).is_number
 }
 
-/// The reading of a field as a number. Most numbers are digits with at most one mark, perhaps after
-/// a sign, and are found by one reading of their bytes.
+/// Reads a field as a number: whether it is a number, and which fraction it has with each decimal
+/// mark. A field of digits with at most one decimal mark, perhaps after a sign, is read in one
+/// pass.
 pub fn number_in(field: &str) -> FieldNumber
     ensures { result ≡ number_of field.now }
 {
@@ -71,7 +76,7 @@ pub fn number_in(field: &str) -> FieldNumber
     }
     let (front, digits, back) = parts_of(trimmed(field));
     let number = figure_number(digits, are_written(field.as_bytes()));
-    let is_number = number.is_number && may_stand_around(front, back);
+    let is_number = number.is_number && may_be_around(front, back);
     FieldNumber {
         is_number,
         is_decimal: number.is_decimal && is_number,
@@ -79,7 +84,7 @@ pub fn number_in(field: &str) -> FieldNumber
     }
 }
 
-// The rest after a sign of ASCII, or all.
+// The bytes without a sign of ASCII, `-` or `+`, at their start.
 fn unsigned(bytes: &[u8]) -> &[u8]
     ensures { result.now ≡ unsigned bytes.now }
 {
@@ -89,7 +94,7 @@ fn unsigned(bytes: &[u8]) -> &[u8]
     }
 }
 
-// Digits, decimal marks and signs of ASCII alone, or nothing.
+// True if all bytes are digits, decimal marks or signs of ASCII. True for no bytes.
 fn are_written(bytes: &[u8]) -> bool
     ensures { result ≡ list_all is_written bytes.now }
 {
@@ -102,7 +107,7 @@ fn is_written(byte: u8) -> bool
     is_inner(byte) || matches!(byte, b'-' | b'+')
 }
 
-// The reading of digits with their marks alone.
+// Reads digits with their marks as a number. `digits` has no sign, no currency and no unit.
 fn figure_number(digits: &str, is_bare: bool) -> FieldNumber
     ensures { result ≡ number_with (is_figure digits.now) is_bare digits.now }
 {
@@ -112,7 +117,8 @@ fn figure_number(digits: &str, is_bare: bool) -> FieldNumber
     }
 }
 
-// The reading of digits with at most one mark. For other texts the result has no meaning.
+// Reads digits, perhaps none, with at most one decimal mark as a number. `None` for any other text,
+// and for a mark alone.
 fn plain_number(digits: &[u8], is_bare: bool) -> Option<FieldNumber>
     ensures value { IfSome result (λ number. number
         ≡ number_with (is_figure digits.now) is_bare digits.now) }
@@ -122,17 +128,17 @@ fn plain_number(digits: &[u8], is_bare: bool) -> Option<FieldNumber>
     let (_, rest) = digits.split_at(digit_count(digits));
     match rest {
         [] => Some(decimal_number(is_number, is_bare, NO_FRACTION, NO_FRACTION)),
-        [b'.', behind @ ..] if digits.len() > 1 && are_digits(behind) => {
+        [b'.', after @ ..] if digits.len() > 1 && are_digits(after) => {
             Some(decimal_number(is_number, is_bare, read_fraction(rest), NO_FRACTION))
         }
-        [b',', behind @ ..] if digits.len() > 1 && are_digits(behind) => {
+        [b',', after @ ..] if digits.len() > 1 && are_digits(after) => {
             Some(decimal_number(is_number, is_bare, NO_FRACTION, read_fraction(rest)))
         }
         _ => None,
     }
 }
 
-// The number of digits at the front.
+// The number of digits at the start of the bytes.
 fn digit_count(bytes: &[u8]) -> usize
     ensures { result ≡ prefix_len is_ascii_digit bytes.now }
 {
@@ -143,17 +149,17 @@ fn digit_count(bytes: &[u8]) -> usize
     count
 }
 
-// The use of a mark that digits follow.
+// The fraction of digits that end with `rest`: a decimal mark, and the digits after it.
 fn read_fraction(rest: &[u8]) -> Fraction
-    ensures { result ≡ record { len = length rest.now; is_read = true } }
+    ensures { result ≡ record { len = length rest.now; is_readable = true } }
 {
     Fraction {
         len: rest.len(),
-        is_read: true,
+        is_readable: true,
     }
 }
 
-// The reading of digits as a number without exponent.
+// The result for digits that are no number, or a number without an exponent.
 fn decimal_number(is_number: bool, is_bare: bool, point: Fraction, comma: Fraction) -> FieldNumber
     ensures { result ≡ record {
       is_number = is_number;
@@ -172,7 +178,7 @@ fn decimal_number(is_number: bool, is_bare: bool, point: Fraction, comma: Fracti
     }
 }
 
-// The reading of digits with any marks alone.
+// Reads digits with any number of marks, and perhaps an exponent, as a number.
 fn marked_number(digits: &str, is_bare: bool) -> FieldNumber
     ensures { result ≡ number_with (is_figure digits.now) is_bare digits.now }
 {
@@ -195,7 +201,7 @@ fn has_exponent(text: &str) -> bool
     is_scientific(text, 'e') || is_scientific(text, 'E')
 }
 
-// The use of a mark by digits.
+// The fraction that digits have if `mark` is the decimal mark.
 fn fraction_in(digits: &str, mark: u8) -> Fraction
     requires { mark < 128 }
     ensures { result ≡ fraction_of (halves mark digits.now) }
@@ -203,11 +209,12 @@ fn fraction_in(digits: &str, mark: u8) -> Fraction
     let len = fraction_len(digits, mark);
     Fraction {
         len,
-        is_read: len == 0 || is_fraction(digits, mark),
+        is_readable: len == 0 || is_fraction(digits, mark),
     }
 }
 
-// The characters after the whole number: the mark and the digits of the fraction.
+// The number of bytes from the first `mark` to the end of the digits: the mark, and the digits of
+// the fraction. 0 if the digits don't have the mark.
 pub(crate) fn fraction_len(digits: &str, mark: u8) -> usize
     ensures { result ≡ fraction_len (halves mark digits.now) }
 {

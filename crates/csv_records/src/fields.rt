@@ -1,4 +1,4 @@
-//! Fields that lie one after another in one piece of memory.
+//! A list of fields that are stored one after another in one piece of memory.
 
 ghost use Rattle.std.specs.Prelude.{◌≡◌, ◌<◌, ◌-◌, ◌^◌, ◌++◌, ◌∷◌, [], IfSome, OnErr, OnOk, Some, get_or, length, option_map};
 ghost use Rattle.csv.specs.Records.{field_at, fields_of, partial_of, prev};
@@ -7,7 +7,8 @@ use csv::ByteRecord;
 use std::alloc::{AllocError, Global};
 use std::marker::Model;
 
-/// Numbers that take four bytes each, but for those from the first on that doesn't fit.
+/// A list of the ends of fields. A number takes four bytes, up to the first number that doesn't fit
+/// `u32`. From this one on, each number takes a `usize`.
 #[derive(Drop)]
 pub(crate) struct Ends {
     short: Vec<u32>,
@@ -49,7 +50,7 @@ impl Ends {
         }
     }
 
-    // The end before that at a position.
+    // The end before the end at a position, or 0 at the first position. It is the start of a field.
     fn start(&self, at: usize) -> usize
         requires { at < length self.now }
         ensures { result ≡ prev 0 self.now at }
@@ -57,7 +58,7 @@ impl Ends {
         if at == 0 { 0 } else { self.get(at - 1) }
     }
 
-    // Makes room for more of them.
+    // Makes room for `count` more ends.
     fn reserve(&mut self, count: usize) -> Result<(), AllocError>
         ensures { self.new ≡ self.old }
     {
@@ -95,7 +96,7 @@ impl Model for Fields {
 }
 
 impl Fields {
-    /// No fields.
+    /// A list without fields.
     pub(crate) fn new(alloc: Global) -> Fields
         ensures fields { fields_of result ≡ [] }
         ensures whole { partial_of result ≡ [] }
@@ -113,7 +114,7 @@ impl Fields {
         self.ends.len()
     }
 
-    /// The field at a position.
+    /// The field at a position, which is counted from 0. `None` after the last field.
     pub(crate) fn get(&self, at: usize) -> Option<&[u8]>
         ensures place { IfSome result (λ field. at < 2 ^ 64 - 1) }
         ensures value { option_map (λ field. field.now) result ≡ field_at (fields_of self.now) at }
@@ -125,7 +126,7 @@ impl Fields {
         Some(field)
     }
 
-    /// Where the field at a position starts among the bytes.
+    /// The index of the byte at which the field at a position starts.
     pub(crate) fn start(&self, at: usize) -> usize
         requires { at < length (fields_of self.now) }
         ensures { result ≡ prev 0 self.now.ends at }
@@ -133,7 +134,8 @@ impl Fields {
         self.ends.start(at)
     }
 
-    /// The field at a position, by its start and its end among the bytes.
+    /// The field at a position, and the index of the byte after it. `start` is the index of its
+    /// first byte.
     pub(crate) fn field_from(&self, at: usize, start: usize) -> (&[u8], usize)
         requires there { at < length (fields_of self.now) }
         requires start { start ≡ prev 0 self.now.ends at }
@@ -144,7 +146,7 @@ impl Fields {
         (&self.bytes.as_slice()[start..end], end)
     }
 
-    /// Makes room for `count` more fields with `bytes` bytes in all.
+    /// Reserves memory for `count` more fields with `bytes` bytes in all.
     pub(crate) fn reserve(&mut self, count: usize, bytes: usize) -> Result<(), AllocError>
         ensures { self.new ≡ self.old }
     {

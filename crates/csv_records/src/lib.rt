@@ -1,5 +1,5 @@
-//! From bytes to records of fields, and what a field is: encodings, delimiters, quotes, cleaning
-//! and numbers.
+//! Reads bytes into a text, and a text into records of fields: encodings, delimiters and quotes.
+//! Also cleans fields for a terminal, and recognises fields that are numbers.
 #![tactic(auto)]
 
 mod beginning;
@@ -30,7 +30,7 @@ mod text;
 pub use beginning::read_beginning;
 pub use characters::split_first;
 pub use cleaning::{cleaned, is_clean_line};
-pub use decimals::{ColumnMarks, DecimalMark, MarkUse, Points};
+pub use decimals::{ColumnMarks, DecimalMark, MarkSummary, Points};
 pub use delimiter::{Delimiter, only_ascii};
 pub use digits::parse_digits;
 pub use encoding::{Encoding, decoded};

@@ -1,10 +1,11 @@
-//! The lines of bytes. A line ends at a line feed, a carriage return, or both in this order.
+//! Splits bytes and texts into lines. A line ends at a line feed, a carriage return, or a carriage
+//! return with a line feed after it.
 
 ghost use Rattle.std.specs.Prelude.{◌≡◌};
 ghost use Rattle.csv_records.specs.Lines.{EndsIn, below_line, below_lines, end_len, first_line, line_len};
 
-/// The bytes below the first `count` lines, none if there aren't more. A line ends at a line
-/// feed, a carriage return, or a carriage return with a line feed, also between quotes.
+/// The bytes after the first `count` lines, or no bytes if there are no more lines. A line ends at
+/// a line feed, a carriage return, or a carriage return with a line feed, also between quotes.
 pub(crate) fn below_lines(bytes: &[u8], count: usize) -> &[u8]
     ensures below { result.now ≡ below_lines count bytes.now }
     ensures end { EndsIn bytes.now result.now }
@@ -19,7 +20,7 @@ pub(crate) fn below_lines(bytes: &[u8], count: usize) -> &[u8]
     rest
 }
 
-// The rest after the first line and its end.
+// The bytes after the first line and its end.
 fn below_line(bytes: &[u8]) -> &[u8]
     ensures { result.now ≡ below_line bytes.now }
 {
@@ -27,7 +28,7 @@ fn below_line(bytes: &[u8]) -> &[u8]
     rest.split_at(end_len(rest)).1
 }
 
-/// The first line without its end, and the rest after that end.
+/// The first line of a text without its line end, and the text after this line end.
 pub(crate) fn split_line(text: &str) -> (&str, &str)
     ensures line { result.0.now ≡ first_line text.now }
     ensures below { result.1.now ≡ below_line text.now }
@@ -36,7 +37,7 @@ pub(crate) fn split_line(text: &str) -> (&str, &str)
     (line, rest.split_at(end_len(rest.as_bytes())).1)
 }
 
-// The number of bytes before the first line end.
+// The number of bytes before the first line end, or of all bytes if there is none.
 fn line_len(bytes: &[u8]) -> usize
     ensures { result ≡ line_len bytes.now }
 {
@@ -46,7 +47,7 @@ fn line_len(bytes: &[u8]) -> usize
         .count()
 }
 
-// The number of bytes of the line end at the front.
+// The number of bytes of the line end that `bytes` begin with, or 0 if they begin with none.
 fn end_len(bytes: &[u8]) -> usize
     ensures { result ≡ end_len bytes.now }
 {

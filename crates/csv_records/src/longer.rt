@@ -1,4 +1,5 @@
-//! Records that have more fields than the first one, not counting empty ones at their ends.
+//! Reports records that have more fields than the first record. Empty fields at the end of a record
+//! don't count.
 
 ghost use Rattle.std.specs.Prelude.{◌≡◌, ◌≢◌, [], nat_lt, slice_get, unwrap_or};
 ghost use Rattle.std.specs.List.{count_by, position};
@@ -12,23 +13,26 @@ use crate::options::InputOptions;
 use crate::records::Rows;
 use crate::text::{line_before, without_utf8_mark};
 
-/// Records that have more fields than the first one.
+/// A report on the *longer* records of a text: those that have more fields than its first record.
+/// Empty fields at the end of a longer record don't count.
 #[derive(Clone, Copy, Debug)]
 pub struct LongRecords {
-    /// The line in which the first of them begins. Lines are counted as for `DecodeError`.
+    /// The number of the line in which the first longer record begins. Lines are counted as for
+    /// `DecodeError`.
     pub line: u64,
-    /// The number of its fields, not counting empty ones at its end.
+    /// The number of fields of the first longer record, not counting empty ones at its end.
     pub fields: usize,
-    /// The number of fields of the first record.
+    /// The number of fields of the first record of the text, including empty ones.
     pub first_fields: usize,
-    /// The number of other records that have more fields than the first.
+    /// The number of longer records after the first longer record.
     pub others: usize,
-    /// True if the others are all records that follow.
+    /// True if each record after the first longer record is longer too. This is so if the first
+    /// longer record is the last record.
     pub lasts: bool,
 }
 
-/// The report on the records of a text that have more fields than the first one. `rest` is the text
-/// without a line that names the delimiter.
+/// The report on the longer records among `records`, the first records of a text. `None` if none of
+/// them is longer. `rest` is the text without a line that names the delimiter.
 pub(crate) fn longer_records(
     records: &Rows<'_>,
     text: &str,
@@ -39,7 +43,7 @@ pub(crate) fn longer_records(
     requires no_spaces { options.now.delimiter ≢ Spaces }
     requires byte { delimiter
         ≡ (delimited options.now.delimiter options.now.has_quotes text.now).0 }
-    requires behind { rest.now
+    requires after { rest.now
         ≡ (delimited options.now.delimiter options.now.has_quotes text.now).1 }
     ensures { result ≡ longer_records options.now text.now records.now }
 {
@@ -57,7 +61,7 @@ pub(crate) fn longer_records(
     })
 }
 
-// The number of fields of the record at a position.
+// The number of fields of the record at a position, or 0 if there is no such record.
 fn fields_at(records: &Rows<'_>, position: usize) -> usize
     ensures { result ≡ field_count records.now position }
 {
@@ -67,7 +71,8 @@ fn fields_at(records: &Rows<'_>, position: usize) -> usize
     }
 }
 
-// The number of fields of the record at a position, not counting empty ones at its end.
+// The number of fields of the record at a position, not counting empty ones at its end. 0 if there
+// is no such record.
 fn filled_at(records: &Rows<'_>, position: usize) -> usize
     ensures { result ≡ filled_len (unwrap_or (slice_get records.now position) []) }
 {
@@ -77,14 +82,15 @@ fn filled_at(records: &Rows<'_>, position: usize) -> usize
     }
 }
 
-// The position of the first record that has more than `most` fields.
+// The position of the first record that has more than `most` fields, not counting empty ones at its
+// end.
 fn first_longer(records: &Rows<'_>, most: usize) -> Option<usize>
     ensures { result ≡ position (λ fields. nat_lt most (filled_len fields)) records.now }
 {
     records.iter().position(|record| record.has_more(most))
 }
 
-// The number of records that have more than `most` fields.
+// The number of records that have more than `most` fields, not counting empty ones at their ends.
 fn count_longer(records: &Rows<'_>, most: usize) -> usize
     ensures { result ≡ count_by (λ fields. nat_lt most (filled_len fields)) records.now }
 {
@@ -94,7 +100,7 @@ fn count_longer(records: &Rows<'_>, most: usize) -> usize
         .count()
 }
 
-// The bytes without the first `before` records.
+// The bytes from the record after the first `before` records on.
 fn skip_records(bytes: &[u8], before: usize, delimiter: u8, has_quotes: bool) -> &[u8]
     ensures { result.now ≡ skip_records (config_for delimiter has_quotes) before bytes.now }
 {
@@ -105,23 +111,23 @@ fn skip_records(bytes: &[u8], before: usize, delimiter: u8, has_quotes: bool) ->
     skip_newlines(rest)
 }
 
-// The rest after the first record of these bytes.
+// The bytes after the first record, or no bytes if there is no record.
 fn skip_record(bytes: &[u8], delimiter: u8, has_quotes: bool) -> &[u8]
     ensures { result.now ≡ skip_record (config_for delimiter has_quotes) bytes.now }
 {
     match first_count(bytes, delimiter, has_quotes) {
-        Some((_, behind)) => behind,
+        Some((_, after)) => after,
         None => &[],
     }
 }
 
-// The bytes without the line ends at the front.
+// The bytes without the line ends at their start.
 fn skip_newlines(bytes: &[u8]) -> &[u8]
     ensures { result.now ≡ skip_newlines bytes.now }
 {
     let mut rest = bytes;
-    while let [b'\n' | b'\r', behind @ ..] = rest {
-        rest = behind;
+    while let [b'\n' | b'\r', after @ ..] = rest {
+        rest = after;
     }
     rest
 }

@@ -1,4 +1,4 @@
-//! Signs that an input is another thing than CSV in UTF-8.
+//! Recognises inputs that aren't CSV in UTF-8 by their bytes.
 
 ghost use Rattle.std.specs.Prelude.{◌≡◌, ◌==◌};
 ghost use Rattle.std.specs.List.{position};
@@ -10,7 +10,8 @@ use crate::text::line_number;
 use memchr::memchr;
 use thiserror::Error;
 
-/// Kinds of inputs that are no CSV in UTF-8, as their bytes show.
+/// A kind of input that isn't CSV in UTF-8, and is recognised by its bytes. For `Json`, `Html`,
+/// `Utf16` and `Binary`, the bytes of lines that `InputOptions::skip` leaves out don't count.
 #[derive(Clone, Copy, Debug, PartialEq, Eq, Error)]
 pub enum NotText {
     /// A file of gzip: it begins with the bytes 0x1F and 0x8B.
@@ -38,17 +39,19 @@ pub enum NotText {
     /// after white space.
     #[error("an HTML page")]
     Html,
-    /// UTF-16 without a byte-order mark: of the first four bytes every second one is NUL, and no
-    /// other.
+    /// UTF-16 without a byte-order mark: every second one of the first four bytes is NUL, and the
+    /// other two aren't.
     #[error("UTF-16 without a mark")]
     Utf16,
-    /// No text: the first NUL byte is in this line.
+    /// Not a text, because it has a NUL byte. The value is the number of the line with the first
+    /// NUL byte, counted as for `DecodeError`.
     #[error("line {0} has a NUL byte")]
     Binary(u64),
 }
 
-/// The kind of an input, if no encoding is chosen and no mark says that it is UTF-16.
-/// JSON and NULs count below the lines that are left out.
+/// The kind of an input that isn't CSV in UTF-8, or `None` if its bytes show no such kind. Always
+/// `None` if an encoding is set, or if the input begins with a byte-order mark of UTF-16. JSON,
+/// HTML and NUL bytes are looked for after the first `skip` lines.
 pub(crate) fn not_text_for(encoding: Option<Encoding>, skip: usize, input: &[u8]) -> Option<NotText>
     ensures { result ≡ not_text_for encoding skip input.now }
 {
@@ -90,14 +93,14 @@ fn not_text_by_front(input: &[u8]) -> Option<NotText>
     }
 }
 
-// True if bytes begin with these.
+// True if `bytes` begin with `front`.
 fn begins_with(bytes: &[u8], front: &[u8]) -> bool
     ensures { result ≡ begins_with front.now bytes.now }
 {
     &bytes[..front.len().min(bytes.len())] == front
 }
 
-// The kind of bytes below this many lines.
+// The kind of the bytes after the first `above` lines of an input: JSON, HTML, or bytes with a NUL.
 fn not_text_below(above: usize, bytes: &[u8]) -> Option<NotText>
     ensures { result ≡ not_text_below above bytes.now }
 {
@@ -124,7 +127,8 @@ fn without_front(bytes: &[u8]) -> &[u8]
     bytes.trim_ascii_start()
 }
 
-// True if JSON may begin with the first bytes of both, and a header of CSV doesn't.
+// True if the first bytes of `first` and of `second` may begin JSON, and don't begin a usual header
+// of CSV.
 fn begins_json(first: &[u8], second: &[u8]) -> bool
     ensures { result ≡ begins_json first.now second.now }
 {
@@ -149,7 +153,7 @@ fn begins_with_word(bytes: &[u8], word: &str) -> bool
     bytes[..word.len().min(bytes.len())].eq_ignore_ascii_case(word.as_bytes())
 }
 
-// The kind of bytes below this many lines, by their NULs.
+// The kind of the bytes after the first `above` lines of an input, if they have a NUL byte.
 fn not_text_by_nuls(above: usize, bytes: &[u8]) -> Option<NotText>
     ensures { result ≡ not_text_by_nuls above bytes.now }
 {
@@ -159,7 +163,7 @@ fn not_text_by_nuls(above: usize, bytes: &[u8]) -> Option<NotText>
     nul_line(above, bytes).map(NotText::Binary)
 }
 
-// True if every second one of the first four bytes is NUL, and no other.
+// True if every second one of the first four bytes is NUL, and the other two aren't.
 fn is_like_utf16(bytes: &[u8]) -> bool
     ensures { result ≡ is_like_utf16 bytes.now }
 {
@@ -169,7 +173,7 @@ fn is_like_utf16(bytes: &[u8]) -> bool
     )
 }
 
-// The line of the first NUL.
+// The number of the line with the first NUL byte. `above` is the number of lines before `bytes`.
 fn nul_line(above: usize, bytes: &[u8]) -> Option<u64>
     ensures { result ≡ nul_line above bytes.now }
 {
@@ -177,7 +181,7 @@ fn nul_line(above: usize, bytes: &[u8]) -> Option<u64>
     Some(line_number(above, &bytes[..at]))
 }
 
-// The place of the first NUL.
+// The index of the first NUL byte.
 fn first_nul(bytes: &[u8]) -> Option<usize>
     ensures { result ≡ position (λ b. b == 0) bytes.now }
 {

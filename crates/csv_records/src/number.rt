@@ -1,25 +1,26 @@
-//! Fields that are numbers.
+//! Recognises fields that are numbers, and neutral fields, such as `n/a`. The *figure* of a field
+//! is the part from its first digit or decimal mark to its last one.
 
 ghost use Rattle.std.specs.Prelude.{◌≡◌, ◌∷◌, ◌++◌, ◌-◌, ◌<◌, ◌==◌, ◌&&◌, ◌||◌, ℕ, Bool, [], IfNone, IfSome, bytes_eq, chars, encode_utf8, length, not};
 ghost use Rattle.std.specs.List.{list_any, position, prefix_len, suffix_len};
 ghost use Rattle.std.specs.Char.{is_ascii_digit, is_ascii_uppercase};
 ghost use Rattle.std.specs.Str.{IsCharBoundary};
-ghost use Rattle.csv_records.specs.Number.{are_parted_digits, back_of, before, begins, behind, ends, figure_of, from_other, front_of, group_marks, halves, has_groups, has_groups_before, has_indian_groups, is_address, is_amount, is_bare_neutral, is_bare_number, is_blank, is_code, is_currency, is_dash, is_decimal, is_digits, is_enclosed, is_end, is_exponent, is_figure, is_fraction, is_group_len, is_grouped, is_inner, is_missing, is_money, is_name, is_neutral, is_number, is_octet, is_one, is_outer, is_scientific, is_sign, is_signed, is_signed_later, is_size, is_space, is_time, is_unit, is_word, to_other, trimmed, without_first, without_last, without_spaces_before, without_spaces_behind};
+ghost use Rattle.csv_records.specs.Number.{are_parted_digits, back_of, before, begins, ends, figure_of, from_other, front_of, group_marks, halves, has_groups, has_groups_before, has_indian_groups, is_address, is_amount, is_bare_neutral, is_bare_number, is_blank, is_code, is_currency, is_dash, is_decimal, is_digits, is_enclosed, is_end, is_exponent, is_figure, is_fraction, is_group_len, is_grouped, is_inner, is_missing, is_money, is_name, is_neutral, is_number, is_octet, is_one, is_outer, is_scientific, is_sign, is_signed, is_signed_later, is_size, is_space, is_time, is_unit, is_word, to_other, trimmed, without_first, without_last, without_leading, without_leading_spaces, without_trailing_spaces};
 
 use crate::characters::split_first;
 use crate::digits::parse_digits;
 use comfy_parts::content_split::are_digits;
 use ucd_category::GeneralCategory;
 
-// The characters that part groups of digits.
+// The characters that separate groups of digits.
 const GROUP_MARKS: [char; 7] = [',', '.', '_', '\'', ' ', '\u{a0}', '\u{202f}'];
 
-// The units of times.
+// The units of time.
 const TIMES: [&str; 9] = [
     "ns", "us", "\u{b5}s", "\u{3bc}s", "ms", "s", "min", "h", "d",
 ];
 
-// Names of currencies that are no character and no code.
+// Names of currencies that are neither a currency character nor a code.
 const CURRENCY_NAMES: [&str; 2] = ["R$", "kr"];
 
 // Texts without a letter or a digit for a missing value.
@@ -42,8 +43,8 @@ const CURRENCY_CODES: [&str; 161] = [
     "YER", "ZAR", "ZMW", "ZWG", "ZWL",
 ];
 
-// True if these texts may be around a figure.
-pub(crate) fn may_stand_around(front: &str, back: &str) -> bool
+// True if `front` and `back` may be the texts before and after the figure of a number.
+pub(crate) fn may_be_around(front: &str, back: &str) -> bool
     ensures { result ≡ is_signed front.now back.now || is_enclosed front.now back.now }
 {
     is_signed(front, back) || is_enclosed(front, back)
@@ -53,24 +54,24 @@ pub(crate) fn may_stand_around(front: &str, back: &str) -> bool
 pub(crate) fn trimmed(field: &str) -> &str
     ensures { result.now ≡ trimmed field.now }
 {
-    without_spaces_behind(without_spaces_before(field))
+    without_trailing_spaces(without_leading_spaces(field))
 }
 
-fn without_spaces_before(text: &str) -> &str
-    ensures { result.now ≡ without_spaces_before text.now }
+fn without_leading_spaces(text: &str) -> &str
+    ensures { result.now ≡ without_leading_spaces text.now }
 {
     let mut rest = text;
-    'spaces: while let Some((c, behind)) = split_first(rest) {
+    'spaces: while let Some((c, after)) = split_first(rest) {
         if !is_space(c) {
             return rest;
         }
-        rest = behind;
+        rest = after;
     }
     rest
 }
 
-fn without_spaces_behind(text: &str) -> &str
-    ensures { result.now ≡ without_spaces_behind text.now }
+fn without_trailing_spaces(text: &str) -> &str
+    ensures { result.now ≡ without_trailing_spaces text.now }
 {
     let mut rest = text;
     'spaces: while let Some((before, c)) = split_last(rest) {
@@ -82,7 +83,7 @@ fn without_spaces_behind(text: &str) -> &str
     rest
 }
 
-// The texts before the first digit or decimal mark, from there to the last, and after it.
+// The texts before the figure of a field, of the figure, and after it.
 pub(crate) fn parts_of(text: &str) -> (&str, &str, &str)
     ensures front { result.0.now ≡ front_of text.now }
     ensures figure { result.1.now ≡ figure_of text.now }
@@ -93,7 +94,7 @@ pub(crate) fn parts_of(text: &str) -> (&str, &str, &str)
     (front, figure, back)
 }
 
-// Where the first digit or decimal mark is, or the end.
+// The index of the first digit or decimal mark, or the length of the text if there is none.
 fn figure_start(text: &str) -> usize
     ensures value { result ≡ prefix_len is_outer text.now }
     ensures boundary { IsCharBoundary text.now result }
@@ -108,7 +109,7 @@ fn first_inner(bytes: &[u8]) -> Option<usize>
     bytes.iter().position(|byte| is_inner(*byte))
 }
 
-// Where the last digit or decimal mark ends, or the start.
+// The index after the last digit or decimal mark, or 0 if there is none.
 fn figure_end(text: &str) -> usize
     ensures value { result ≡ length text.now - suffix_len is_outer text.now }
     ensures boundary { IsCharBoundary text.now result }
@@ -121,14 +122,14 @@ fn figure_end(text: &str) -> usize
     end
 }
 
-// A digit or a decimal mark.
+// True for a digit or a decimal mark.
 pub(crate) fn is_inner(byte: u8) -> bool
     ensures { result ≡ is_inner byte }
 {
     byte.is_ascii_digit() || byte == b'.' || byte == b','
 }
 
-// True if these texts may be around a figure without parentheses, with a sign or without.
+// True if `front` and `back` may be around a figure without parentheses, with a sign or without.
 fn is_signed(front: &str, back: &str) -> bool
     ensures { result ≡ is_signed front.now back.now }
 {
@@ -138,8 +139,8 @@ fn is_signed(front: &str, back: &str) -> bool
     }
 }
 
-// True if these texts may be around a figure without a sign at the front. The sign may be directly
-// before or after the figure.
+// True if `front` and `back` may be around a figure without a sign at the start. The sign may be
+// directly before or after the figure.
 fn is_signed_later(front: &str, back: &str) -> bool
     ensures { result ≡ is_signed_later front.now back.now }
 {
@@ -149,7 +150,7 @@ fn is_signed_later(front: &str, back: &str) -> bool
     }
 }
 
-// True if these texts may be around a figure in parentheses.
+// True if `front` and `back` may be around a figure in parentheses.
 fn is_enclosed(front: &str, back: &str) -> bool
     ensures { result ≡ is_enclosed front.now back.now }
 {
@@ -170,7 +171,7 @@ fn ends_with_parenthesis(text: &str) -> bool
     matches!(split_last(text), Some((_, ')')))
 }
 
-// A currency before the figure, or a unit after it, or neither.
+// True for a currency before the figure, or a unit after it, or neither.
 fn is_amount(front: &str, back: &str) -> bool
     ensures { result ≡ is_amount front.now back.now }
 {
@@ -181,21 +182,21 @@ fn is_amount(front: &str, back: &str) -> bool
     }
 }
 
-// After a figure: nothing, or a unit, also after a blank.
+// True for a text that may follow a figure: nothing, or a unit, also after a blank.
 fn is_end(back: &str) -> bool
     ensures { result ≡ is_end back.now }
 {
-    back.is_empty() || is_unit(behind_blank(back))
+    back.is_empty() || is_unit(without_blank(back))
 }
 
-// The unit of a number.
+// True for a unit: percent, a size, a time or a currency.
 fn is_unit(text: &str) -> bool
     ensures { result ≡ is_unit text.now }
 {
     text == "%" || is_size(text.as_bytes()) || is_time(text) || is_money(text)
 }
 
-// A byte, or a multiple of it.
+// True for a unit of sizes: a byte, or a multiple of it.
 fn is_size(bytes: &[u8]) -> bool
     ensures { result ≡ is_size bytes.now }
 {
@@ -208,14 +209,14 @@ fn is_size(bytes: &[u8]) -> bool
     }
 }
 
-// U+00B5 and U+03BC are letters for millionths.
+// True for a unit of time. U+00B5 and U+03BC are both in use as the letter for millionths.
 fn is_time(text: &str) -> bool
     ensures { result ≡ is_time text.now }
 {
     is_among(&TIMES, text)
 }
 
-// A currency: its character, its code or its name.
+// True for a currency: its character, its code or its name.
 fn is_money(text: &str) -> bool
     ensures { result ≡ is_money text.now }
 {
@@ -231,7 +232,8 @@ fn is_currency_character(text: &str) -> bool
     }
 }
 
-// Codes are three letters, the first a capital, and other texts are seen to be none faster so.
+// True for the code of a currency. Its length and its first letter are tested first, because this
+// test is faster for most other texts.
 fn is_code(text: &str) -> bool
     ensures { result ≡ is_code text.now }
 {
@@ -247,8 +249,8 @@ fn before_sign(text: &str) -> &str
     }
 }
 
-fn behind_sign(text: &str) -> &str
-    ensures { result.now ≡ behind is_sign text.now }
+fn without_sign(text: &str) -> &str
+    ensures { result.now ≡ without_leading is_sign text.now }
 {
     match split_first(text) {
         Some((c, rest)) if is_sign(c) => rest,
@@ -256,8 +258,8 @@ fn behind_sign(text: &str) -> &str
     }
 }
 
-fn behind_blank(text: &str) -> &str
-    ensures { result.now ≡ behind is_blank text.now }
+fn without_blank(text: &str) -> &str
+    ensures { result.now ≡ without_leading is_blank text.now }
 {
     match split_first(text) {
         Some((c, rest)) if is_blank(c) => rest,
@@ -292,7 +294,7 @@ fn without_last(text: &str) -> &str
     }
 }
 
-// The last character, and the rest before it.
+// The last character of a text, and the text before it. `None` if the text is empty.
 pub(crate) fn split_last(text: &str) -> Option<(&str, char)>
     ensures some { IfSome result (λ parts. text.now ≡ parts.0.now ++ encode_utf8 parts.1) }
     ensures characters { IfSome result (λ parts.
@@ -320,14 +322,14 @@ fn is_blank(c: char) -> bool
     matches!(c, ' ' | '\u{a0}' | '\u{202f}')
 }
 
-// A space that may be around a field.
+// True for a space that may be around a field.
 fn is_space(c: char) -> bool
     ensures { result ≡ is_space c }
 {
     is_blank(c) || matches!(c, '\t' | '\n' | '\r')
 }
 
-// A currency. Of ASCII the dollar alone is one, and is seen faster so.
+// True for a currency character. In ASCII only the dollar is one, and this test is faster.
 fn is_currency(c: char) -> bool
     ensures { result ≡ is_currency c }
 {
@@ -338,7 +340,7 @@ fn is_currency(c: char) -> bool
     }
 }
 
-// True if a text begins with `0` and another digit.
+// True if a text begins with `0` and another digit, as the name `0042` does.
 pub(crate) fn is_name(bytes: &[u8]) -> bool
     ensures { result ≡ is_name bytes.now }
 {
@@ -348,7 +350,7 @@ pub(crate) fn is_name(bytes: &[u8]) -> bool
     }
 }
 
-// A decimal with an exponent after a letter.
+// True for a decimal, and an exponent after a letter.
 pub(crate) fn is_scientific(text: &str, letter: char) -> bool
     requires { letter < 128 }
     ensures { result ≡ is_scientific (halves letter text.now) }
@@ -359,14 +361,14 @@ pub(crate) fn is_scientific(text: &str, letter: char) -> bool
     }
 }
 
-// Digits after a sign, or without one.
+// True for digits after a sign, or without one.
 fn is_exponent(text: &str) -> bool
     ensures { result ≡ is_exponent text.now }
 {
-    is_digits(behind_sign(text).as_bytes())
+    is_digits(without_sign(text).as_bytes())
 }
 
-// A number without sign, exponent and unit.
+// True for a number without a sign, an exponent and a unit.
 pub(crate) fn is_decimal(text: &str) -> bool
     ensures { result ≡ is_decimal text.now }
 {
@@ -376,8 +378,8 @@ pub(crate) fn is_decimal(text: &str) -> bool
         || has_groups(text) && !is_address(text)
 }
 
-// Digits after a decimal mark, and digits or groups before it. Either may be missing, but not
-// both.
+// True for digits after a decimal mark, and digits or groups before it. There may be no digits on
+// one side of the mark.
 pub(crate) fn is_fraction(text: &str, mark: u8) -> bool
     requires { mark < 128 }
     ensures { result ≡ is_fraction (halves mark text.now) }
@@ -392,7 +394,7 @@ pub(crate) fn is_fraction(text: &str, mark: u8) -> bool
     }
 }
 
-// The first place of a byte.
+// The index of the first byte that is equal to `mark`.
 pub(crate) fn position_of(bytes: &[u8], mark: u8) -> Option<usize>
     ensures value { result ≡ position (λ b. b == mark) bytes.now }
     ensures inside { IfSome result (λ at. at < length bytes.now) }
@@ -406,7 +408,7 @@ fn are_parted_digits(whole: &[u8], rest: &[u8]) -> bool
     are_digits(whole) && !(whole.is_empty() && rest.is_empty())
 }
 
-// Groups of digits before a mark.
+// True for groups of digits before a mark.
 fn has_groups_before(text: &str, mark: u8) -> bool
     requires { mark < 128 }
     ensures { result ≡ has_groups_before (halves mark text.now) }
@@ -417,7 +419,7 @@ fn has_groups_before(text: &str, mark: u8) -> bool
     }
 }
 
-// Four numbers of at most 255, parted by points.
+// True for four numbers of at most 255, separated by points.
 fn is_address(text: &str) -> bool
     ensures { result ≡ is_address text.now }
 {
@@ -445,7 +447,7 @@ fn has_groups_of_three(text: &str) -> bool
     GROUP_MARKS.iter().any(|mark| is_grouped(text, 3, *mark))
 }
 
-// Commas in digits as in India: without the last digit, groups have two.
+// True for digits with commas as in India: all digits except the last are in groups of two.
 #[tactic(auto, unfolding(crate::specs::Number::has_indian_groups))]
 fn has_indian_groups(text: &str) -> bool
     ensures { result ≡ has_indian_groups text.now }
@@ -456,7 +458,8 @@ fn has_indian_groups(text: &str) -> bool
     }
 }
 
-// Digits in groups of a size, separated by a character. The first group may be smaller.
+// True for digits in groups of a size that are separated by a character. The first group may be
+// smaller.
 fn is_grouped(text: &str, size: usize, mark: char) -> bool
     ensures { result ≡ is_grouped size mark text.now }
 {
@@ -506,15 +509,17 @@ fn begins_with_capital(bytes: &[u8]) -> bool
     }
 }
 
-// Digits, at least one.
+// True for one digit or more.
 pub(crate) fn is_digits(bytes: &[u8]) -> bool
     ensures { result ≡ is_digits bytes.now }
 {
     !bytes.is_empty() && are_digits(bytes)
 }
 
-/// Returns true if a field has no value: it is empty, a dash, two points, or a word for a missing
-/// value. Spaces around it don't count.
+/// Returns true if a field is *neutral*, which means that it has no value and doesn't change how
+/// its column is aligned. A neutral field is empty, a dash, two points, or a word such as `n/a`,
+/// `null` or `nan`. The word may be in capitals and follow a sign. Spaces, TABs and line breaks
+/// around the field don't count.
 pub fn is_neutral(field: &str) -> bool
     ensures { result ≡ is_neutral field.now }
 {
@@ -524,17 +529,17 @@ pub fn is_neutral(field: &str) -> bool
 pub(crate) fn is_bare_neutral(text: &str) -> bool
     ensures { result ≡ is_bare_neutral text.now }
 {
-    text.is_empty() || is_dash(text) || is_missing(behind_sign(text))
+    text.is_empty() || is_dash(text) || is_missing(without_sign(text))
 }
 
-// A dash, or two points.
+// True for a dash, and for two points.
 fn is_dash(text: &str) -> bool
     ensures { result ≡ is_dash text.now }
 {
     is_among(&DASHES, text)
 }
 
-// A word for a missing value.
+// True for a word for a missing value.
 fn is_missing(text: &str) -> bool
     ensures { result ≡ is_missing text.now }
 {

@@ -1,4 +1,4 @@
-//! Options of a caller for the way in which an input is read.
+//! The options with which a caller decides how an input is read.
 
 use crate::delimiter::Delimiter;
 use crate::encoding::Encoding;
@@ -6,18 +6,20 @@ use crate::encoding::Encoding;
 /// Settings for reading an input.
 #[derive(Clone, Copy, Debug)]
 pub struct InputOptions {
-    /// The encoding of the input. If it is `None`, an input that begins with a byte-order
-    /// mark of UTF-16 is UTF-16, and any other one is UTF-8.
+    /// The encoding of the input. With `None`, an input that begins with a byte-order mark of
+    /// UTF-16 is UTF-16, and any other input is UTF-8.
     pub encoding: Option<Encoding>,
-    /// The number of lines at the beginning of the input that are left out, in any encoding. A line
-    /// ends at a line feed, a carriage return, or both, also between quotes.
+    /// The number of lines at the beginning of the input that are left out. Their bytes may be
+    /// invalid in the encoding. In any encoding, a line ends at a line feed, a carriage return, or
+    /// a carriage return with a line feed, also between quotes.
     pub skip: usize,
-    /// The delimiter between fields.
+    /// The byte or the white space that separates fields, or the rule that finds the byte.
     pub delimiter: Delimiter,
-    /// True if the first line is a header. It matters only if spaces separate fields: the header
-    /// then says how many columns there are.
+    /// True if the first line is a header. The field has an effect only for `Delimiter::Spaces`:
+    /// the fields of the header then help to find the number of columns.
     pub has_header: bool,
-    /// True if quotes around a field aren't part of it. A quote that opens a field and is never
-    /// closed is then an error.
+    /// True if double quotes may enclose a field, and aren't part of it. A quote that opens a field
+    /// and is never closed is then an error. If the field is false, or for `Delimiter::Spaces`,
+    /// quotes are ordinary characters.
     pub has_quotes: bool,
 }

@@ -1,4 +1,4 @@
-//! Quotes that are never closed.
+//! Finds a quote that opens a field and is never closed.
 
 ghost use Rattle.std.specs.Prelude.{◌≡◌, ◌≢◌, ◌<◌, ◌≤◌, ℕ, IfNone, IfSome, drop, length, take};
 ghost use Rattle.csv.specs.Reading.{strip_bom};
@@ -12,9 +12,9 @@ use memchr::memchr;
 
 const QUOTE: u8 = b'"';
 
-/// The place, in bytes from the text's start, of the quote that opens a field which the text's end
-/// doesn't close. If there is none, csv's reader doesn't end within quotes. As csv does, it
-/// passes over a byte-order mark.
+/// The index, in bytes, of the quote that opens a field and is never closed. `None` if the reader
+/// of the crate `csv` isn't within quotes at the end of the text. A byte-order mark at the start of
+/// the text is skipped, as by that reader.
 pub(crate) fn unclosed_quote(text: &str, delimiter: u8) -> Option<usize>
     ensures some { IfSome result (λ at.
         IsUnclosed delimiter (strip_bom text.now) (drop at text.now)) }
@@ -25,8 +25,8 @@ pub(crate) fn unclosed_quote(text: &str, delimiter: u8) -> Option<usize>
     Some(text.len() - unmarked.len() + at)
 }
 
-// The place of the quote that opens a field which the end of these bytes doesn't close. It goes
-// from quote to quote: other bytes neither open nor close quotes.
+// The index of the quote that opens a field and is never closed in these bytes. The search goes
+// from quote to quote, because other bytes neither open nor close quotes.
 fn unclosed_in(bytes: &[u8], delimiter: u8) -> Option<usize>
     ensures some { IfSome result (λ at. IsUnclosed delimiter bytes.now (drop at bytes.now)) }
     ensures within { IfSome result (λ at. at < length bytes.now) }
@@ -47,7 +47,7 @@ fn unclosed_in(bytes: &[u8], delimiter: u8) -> Option<usize>
     None
 }
 
-// True if a quote at a place outside quotes opens a field.
+// True if a quote at the index `at`, outside quotes, opens a field.
 fn is_opening(bytes: &[u8], at: usize, delimiter: u8) -> bool
     requires within { at ≤ length bytes.now }
     ensures { result ≡ is_opening delimiter bytes.now at }
@@ -62,8 +62,8 @@ fn ends_field(byte: u8, delimiter: u8) -> bool
     byte == delimiter || ends_line(byte)
 }
 
-// The place after the quote that closes those which opened before `from`. Two quotes in a row are
-// one of the field's.
+// The index after the quote that closes quotes which opened before `from`, or `None` if they are
+// never closed. Two quotes in a row are one quote of the field.
 fn closing_end(bytes: &[u8], from: usize) -> Option<usize>
     requires within { from ≤ length bytes.now }
     ensures some { IfSome result (λ at. (delimiter : ℕ)
@@ -77,11 +77,11 @@ fn closing_end(bytes: &[u8], from: usize) -> Option<usize>
 {
     let mut at = from;
     'quotes: while let Some(ahead) = memchr(QUOTE, &bytes[at..]) {
-        let behind = at + ahead + 1;
-        if behind == bytes.len() || bytes[behind] != QUOTE {
-            return Some(behind);
+        let after = at + ahead + 1;
+        if after == bytes.len() || bytes[after] != QUOTE {
+            return Some(after);
         }
-        at = behind + 1;
+        at = after + 1;
     }
     None
 }

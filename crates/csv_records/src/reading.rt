@@ -1,4 +1,4 @@
-//! The records of a text, by the options of a caller.
+//! Reads the records of a text with the options of a caller.
 
 ghost use Rattle.std.specs.Prelude.{◌≡◌, ◌<◌, ◌^◌, IfErr, IfOk};
 ghost use Rattle.csv_records.specs.First.{AreFirst};
@@ -15,15 +15,15 @@ use crate::spaces::tabbed_text;
 use crate::text::line_before;
 use std::alloc::Global;
 
-/// The records of a text that `decoded` has made. An empty line is no record; `""` is an empty
-/// field.
+/// All records of a text that `decoded` has made. An empty line isn't a record. A line `""` is a
+/// record with one empty field, if `has_quotes` is true.
 ///
 /// # Errors
 ///
-/// - `Unclosed`: a quote is never closed. It has the number of the line in which the quote opens,
-///   and counts the lines that are left out.
-/// - `SplitCharacter`: the delimiter isn't ASCII, and is a byte of another character.
-/// - `OutOfMemory`
+/// - `Unclosed`: a quote that opens a field is never closed. The error has the number of the line
+///   with this quote. The lines that `skip` leaves out are counted too.
+/// - `SplitCharacter`: the delimiter isn't ASCII, and is one of the bytes of another character.
+/// - `OutOfMemory`: there isn't enough memory for the records.
 pub fn read_records(
     alloc: Global,
     text: &str,
@@ -35,8 +35,10 @@ pub fn read_records(
     Ok(read_first_records(alloc, text, options, usize::MAX)?.records)
 }
 
-/// The first of these records, at most this many, how many there are, and which of the first ones
-/// have more fields than the very first. All of the text is read.
+/// The first `most` records of a text, or all if there are fewer. The result also has the number of
+/// all records of the text, and a report on those of its first `most` records that have more fields
+/// than the first one. There is no report for `Delimiter::Spaces`. The whole text is read, and the
+/// errors are those of `read_records`.
 pub fn read_first_records(
     alloc: Global,
     text: &str,

@@ -1,4 +1,4 @@
-//! The records of a text.
+//! The records of a text, and iterators over records and their fields.
 
 ghost use Rattle.std.specs.Prelude.{◌≡◌, ◌≢◌, ◌<◌, ◌≤◌, ◌==◌, ◌-◌, ◌^◌, ◌∷◌, ◌++◌, [], All, IfErr, IfNone, IfOk, IfSome, IsTrue, None, OnOk, drop, false, get_or, length, map, nat_lt, option_map, slice_get, take};
 ghost use Rattle.std.specs.Iterator.{YieldsFirstBy, item_count};
@@ -18,12 +18,12 @@ use std::alloc::{AllocError, Global};
 use std::marker::Model;
 use std::str;
 
-/// The records of a text. However many they are, they lie in two large pieces of memory, which come
-/// back when they are dropped.
+/// The records of a text. The records take a few large pieces of memory, however many there are.
+/// Dropping the value frees this memory.
 ///
 /// ```
 /// let records = read_records(alloc, "name,days\noats,3\n", &options)?;
-/// let below = records.rows().rows_behind(1);
+/// let below = records.rows().rows_after(1);
 /// // one record, whose field at position 1 is 3
 /// ```
 pub struct Records {
@@ -32,7 +32,8 @@ pub struct Records {
     places: Vec<Place>,
 }
 
-// Where the fields of a record are among those of all: from the first position up to the second.
+// The positions of a record's fields in the list of all fields: from `start` up to, but not
+// including, `end`.
 #[derive(Clone, Copy)]
 struct Place {
     start: usize,
@@ -62,8 +63,9 @@ impl Model for Records {
 }
 
 impl Records {
-    /// Records of these fields, one after another. The first count says how many fields the first
-    /// record has, and so on. There are none if the counts don't add up to the fields.
+    /// Makes records of a list of fields: the first record has the first `counts[0]` fields, the
+    /// second record has the next `counts[1]` fields, and so on. `None` if the sum of the counts
+    /// isn't the number of fields. The only error is that memory runs out.
     ///
     /// ```
     /// let records = Records::from_fields(alloc, &["name", "days", "oats", "3"], &[2, 2])?;
@@ -88,7 +90,7 @@ impl Records {
         Ok(Some(Records { fields, places }))
     }
 
-    /// All records, in their order.
+    /// All records, in the order of the text.
     pub fn rows(&self) -> Rows<'_>
         ensures { result ≡ self.now }
     {
@@ -99,8 +101,8 @@ impl Records {
     }
 }
 
-/// Records that are one after another: all of a text, or some. As an iterator it gives each of
-/// them.
+/// Consecutive records of a text: all of its records, or some of them. As an iterator, `Rows`
+/// yields each record.
 #[derive(Drop)]
 pub struct Rows<'a> {
     fields: &'a Fields,
@@ -135,14 +137,14 @@ impl<'a> Rows<'a> {
         self.places.is_empty()
     }
 
-    /// Does nothing. It ensures that fields are whole characters.
+    /// Does nothing. For proofs, its clause states that each field of each record is valid UTF-8.
     pub fn hold_texts(&self)
         ensures { All AllText self.now }
     {
         let _ = &self.fields;
     }
 
-    /// An iterator over the same records.
+    /// An iterator over the records, which leaves `self` as it is.
     pub fn iter(&self) -> Rows<'a>
         ensures { result ≡ self.now }
     {
@@ -152,8 +154,8 @@ impl<'a> Rows<'a> {
         }
     }
 
-    /// The records after this many.
-    pub fn rows_behind(&self, count: usize) -> Rows<'a>
+    /// The records after the first `count` records, or none if there aren't more.
+    pub fn rows_after(&self, count: usize) -> Rows<'a>
         ensures { result ≡ drop count self.now }
     {
         let (_, places) = self.places.split_at(count.min(self.places.len()));
@@ -161,7 +163,7 @@ impl<'a> Rows<'a> {
         Rows { fields, places }
     }
 
-    /// The first records, at most this many.
+    /// The first `count` records, or all records if there are fewer.
     pub fn first_rows(&self, count: usize) -> Rows<'a>
         ensures { result ≡ take count self.now }
     {
@@ -170,7 +172,7 @@ impl<'a> Rows<'a> {
         Rows { fields, places }
     }
 
-    /// The first record, if there is one.
+    /// The first record, or `None` if there are no records.
     pub fn first(&self) -> Option<Record<'a>>
         ensures { result ≡ slice_get self.now 0 }
     {
@@ -181,7 +183,7 @@ impl<'a> Rows<'a> {
         })
     }
 
-    /// The record at a position, which is counted from 0.
+    /// The record at a position, which is counted from 0. `None` after the last record.
     pub fn get(&self, position: usize) -> Option<Record<'a>>
         ensures { result ≡ slice_get self.now position }
     {
@@ -219,7 +221,7 @@ impl<'a> Iterator for Rows<'a> {
     }
 }
 
-/// A record. It lends its fields.
+/// A record: a list of fields that are borrowed from `Records`.
 #[derive(Drop)]
 pub struct Record<'a> {
     fields: &'a Fields,
@@ -247,7 +249,7 @@ impl<'a> Record<'a> {
         self.place.end - self.place.start
     }
 
-    /// The number of fields up to the last that isn't empty.
+    /// The number of fields up to the last one that isn't empty, or 0 if all are empty.
     pub fn filled_len(&self) -> usize
         ensures { result ≡ filled_len self.now }
     {
@@ -258,7 +260,7 @@ impl<'a> Record<'a> {
         len
     }
 
-    // True if there are more than this many fields, without the empty ones at the end.
+    // True if the record has more than `most` fields, not counting empty ones at its end.
     pub(crate) fn has_more(&self, most: usize) -> bool
         ensures { result ≡ nat_lt most (filled_len self.now) }
     {
@@ -276,7 +278,7 @@ impl<'a> Record<'a> {
         }
     }
 
-    /// The field at a position, which is counted from 0; none after the last.
+    /// The field at a position, which is counted from 0. `None` after the last field.
     pub fn get(&self, position: usize) -> Option<&'a str>
         ensures place { IfSome result (λ f. position < 2 ^ 64 - 1) }
         ensures value { option_map (λ s. s.now) result ≡ field_at self.now position }
@@ -289,7 +291,7 @@ impl<'a> Record<'a> {
         }
     }
 
-    /// Its fields, to go over them.
+    /// An iterator over the fields of the record, in their order.
     pub fn iter(&self) -> RecordFields<'a>
         ensures { result ≡ self.now }
     {
@@ -308,13 +310,14 @@ impl<'a> Record<'a> {
     }
 }
 
-/// Fields of a record, one after another. Each begins at the end of the one before it.
+/// An iterator over the fields of a record, in their order.
 #[derive(Drop)]
 pub struct RecordFields<'a> {
     fields: &'a Fields,
-    // of those that are left
+    // the positions of the fields that are left
     place: Place,
-    // the start of the first of them among the bytes
+    // the index of the byte at which the first of these fields starts, kept because only the ends
+    // of fields are stored
     start: usize,
 }
 
@@ -355,8 +358,8 @@ impl<'a> Iterator for RecordFields<'a> {
 }
 
 // A reader of the records of a text, whose fields are between delimiters. Records may have
-// different numbers of fields. A byte-order mark at the beginning is dropped. Without quotes, a
-// quote is a character of its field.
+// different numbers of fields. A byte-order mark at the beginning is dropped. If `has_quotes` is
+// false, a quote is a character of its field.
 fn reader_of(alloc: Global, text: &str, delimiter: u8, has_quotes: bool) -> Reader<&[u8]>
     ensures { IsStarted delimiter has_quotes text.now result }
 {
@@ -368,20 +371,23 @@ fn reader_of(alloc: Global, text: &str, delimiter: u8, has_quotes: bool) -> Read
         .from_reader(alloc, text.as_bytes())
 }
 
-/// The first records of a text, and how many it has.
+/// The first records of a text, the number of all its records, and a report on records that are
+/// longer than the first one.
 #[derive(Drop)]
 pub struct FirstRecords {
-    /// Its first records.
+    /// The first records of the text, at most as many as the caller requested.
     pub records: Records,
-    /// The number of records in the text.
+    /// The number of all records in the text, including those that aren't in `records`.
     pub count: usize,
-    /// The report on the first records that have more fields than the first of all.
+    /// A report on those of `records` that have more fields than the first one. `None` if no record
+    /// has more, or for `Delimiter::Spaces`.
     pub longer: Option<LongRecords>,
 }
 
-/// The first records of a text, at most this many. All of it is read.
+/// The first `most` records of a text, or all if there are fewer, and the number of all records of
+/// the text. The whole text is read. The report on longer records is `None`.
 ///
-/// `SplitCharacter` comes only of a delimiter that isn't ASCII.
+/// The errors are `OutOfMemory`, and for a delimiter that isn't ASCII also `SplitCharacter`.
 pub(crate) fn first_records_of(
     alloc: Global,
     text: &str,
@@ -398,7 +404,7 @@ pub(crate) fn first_records_of(
     let mut fields = Fields::new(alloc);
     let mut places = Vec::new(alloc);
     let mut record = ByteRecord::new(alloc);
-    // No text in memory has this many.
+    // No text in memory has this many records.
     for count in 0..usize::MAX {
         let Ok(is_found) = reader.read_byte_record(&mut record) else {
             return Err(RecordsError::OutOfMemory);
@@ -421,7 +427,7 @@ pub(crate) fn first_records_of(
     Err(RecordsError::OutOfMemory)
 }
 
-// True if the delimiter split a character of these fields. One of ASCII never does.
+// True if the delimiter split a character of these fields. A delimiter of ASCII never does.
 fn is_split(delimiter: u8, fields: &ByteRecord) -> Result<bool, AllocError>
     ensures split { IfOk result (λ is.
         IsTrue is → (128 ≤ delimiter) × ¬ (AllText (fields_of fields.now))) }
@@ -434,7 +440,7 @@ fn is_split(delimiter: u8, fields: &ByteRecord) -> Result<bool, AllocError>
     Ok(StringRecord::from_byte_record(fields.clone()?).is_err())
 }
 
-// Appends a record to others.
+// Appends the fields of a record to `fields`, and their place to `places`.
 fn push_record(
     fields: &mut Fields,
     places: &mut Vec<Place>,
@@ -457,7 +463,8 @@ fn push_record(
     Ok(())
 }
 
-// Where records of this many fields each are among as many as there are in all.
+// The places of consecutive records, of which `counts` are the numbers of fields. `None` if the sum
+// of the counts isn't `field_count`.
 fn places_for(
     alloc: Global,
     counts: &[usize],
@@ -488,7 +495,7 @@ fn places_for(
     })
 }
 
-// Makes fields of texts.
+// A list with these texts as its fields.
 fn fields_from(alloc: Global, texts: &[&str]) -> Result<Fields, AllocError>
     ensures fields { IfOk result (λ made. fields_of made ≡ map (λ text. text.now) texts.now) }
     ensures text { IfOk result (λ made. AllText (fields_of made)) }
@@ -501,7 +508,7 @@ fn fields_from(alloc: Global, texts: &[&str]) -> Result<Fields, AllocError>
     Ok(made)
 }
 
-// The bytes of some texts.
+// The number of bytes of all these texts, at most `usize::MAX`.
 fn bytes_in(texts: &[&str]) -> usize {
     let mut bytes: usize = 0;
     for text in texts {

@@ -1,4 +1,4 @@
-//! Texts for messages: none can speak to the terminal.
+//! Texts for messages, without characters that a terminal would obey instead of showing them.
 
 ghost use Rattle.std.specs.Prelude.{◌≡◌, IfOk, chars, false, string_bytes};
 ghost use Rattle.std.specs.List.{list_any};
@@ -8,8 +8,9 @@ ghost use Rattle.csv_records.specs.Shown.{shown_in, shown_text};
 use crate::cleaning::shown;
 use std::alloc::{AllocError, Global};
 
-/// A text with U+FFFD for each control character and each that turns the direction of text. Where
-/// `keeps_breaks` says so, line feeds stay.
+/// A copy of a text for a message. U+FFFD replaces each control character, and each character that
+/// changes the direction of text (U+202A to U+202E, U+2066 to U+2069). Line feeds stay if
+/// `keeps_breaks` is true. The only error is that memory runs out.
 pub fn shown_text(alloc: Global, text: &str, keeps_breaks: bool) -> Result<String, AllocError>
     ensures value { IfOk result (λ t. string_bytes t ≡ shown_text keeps_breaks text.now) }
     ensures harmless { IfOk result (λ t. list_any is_harmful (chars (string_bytes t))

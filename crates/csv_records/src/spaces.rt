@@ -1,15 +1,17 @@
-//! Texts whose fields are between spaces, as `df -h` and `ls -l` write them.
+//! Reads texts whose fields are separated by spaces, as in the output of `df -h` and `ls -l`. A
+//! *gap* is a run of spaces and TABs in a line.
 
 ghost use Rattle.std.specs.Prelude.{◌≡◌, ◌++◌, ◌∷◌, [], IfOk, OnOk, false, length, map, max, option_map, string_bytes};
 ghost use Rattle.std.specs.List.{list_any, position_or_len, prefix_len};
 ghost use Rattle.csv_records.specs.Number.{halves};
-ghost use Rattle.csv_records.specs.Spaces.{begins_with_digit, column_gaps, fewest_gaps, filled_lines, behind_field, first_field, gaps_from, is_gap, is_indented, is_total, lacks_name, line_gaps, lines_text, most_gaps, name_gap, spaced, tabbed_line, tabbed_lines, tabbed_text, trimmed_line};
+ghost use Rattle.csv_records.specs.Spaces.{begins_with_digit, column_gaps, fewest_gaps, filled_lines, after_field, first_field, gaps_from, is_gap, is_indented, is_total, lacks_name, line_gaps, lines_text, most_gaps, name_gap, spaced, tabbed_line, tabbed_lines, tabbed_text, trimmed_line};
 
 use crate::below_names::{columns_text, name_starts};
 use std::alloc::{AllocError, Global};
 
-/// The text with TABs between its fields. A blank line is left out. A first line like `total 92` is
-/// the header, or is left out if there is no header.
+/// The text with a TAB in place of each gap between its fields. Blank lines are left out. If there
+/// is a header, a first line like `total 92` is the header, and otherwise it is left out. The only
+/// error is that memory runs out.
 pub(crate) fn tabbed_text(alloc: Global, text: &str, has_header: bool) -> Result<String, AllocError>
     ensures { IfOk result (λ tabbed. string_bytes tabbed ≡ tabbed_text has_header text.now) }
 {
@@ -28,14 +30,14 @@ pub(crate) fn tabbed_text(alloc: Global, text: &str, has_header: bool) -> Result
 }
 
 /// Lines with TABs between their fields. If all fields are below the names of the first line
-/// (`name_starts`), they are cut there. Otherwise runs of spaces and TABs separate them, and white
-/// space of ASCII at the ends of a line is ignored. The last column takes the rest of a line, with
-/// a space for each TAB.
+/// (`name_starts`), a field begins below each name. Otherwise gaps separate fields, and white space
+/// of ASCII at the ends of a line is ignored. The last column takes the rest of a line, with a
+/// space for each TAB.
 ///
-/// Below names there are as many columns as the first line has fields, and no more than the fullest
-/// line below it. If the first line alone begins with a gap and has one field less than that
-/// fullest line, its first field is empty. Without names there are as many columns as the line with
-/// the fewest fields has, and at least two.
+/// If `has_names` is true, there are as many columns as the first line has fields, but no more than
+/// the fullest line below it has. If only the first line begins with a gap, and it has one field
+/// less than that fullest line, its first field is empty. If `has_names` is false, there are as
+/// many columns as the line with the fewest fields has, and at least two.
 fn tabbed_lines(alloc: Global, lines: &[&str], has_names: bool) -> Result<String, AllocError>
     ensures { IfOk result (λ tabbed. string_bytes tabbed
         ≡ tabbed_lines has_names (map (λ line. line.now) lines.now)) }
@@ -47,7 +49,7 @@ fn tabbed_lines(alloc: Global, lines: &[&str], has_names: bool) -> Result<String
     }
 }
 
-// Lines with TABs for their first gaps, after a first text.
+// The text `first`, and then each line with TABs in place of its first `gaps` gaps.
 fn lines_text(alloc: Global, first: &str, lines: &[&str], gaps: usize) -> Result<String, AllocError>
     ensures { IfOk result (λ text. string_bytes text
         ≡ first.now ++ lines_text gaps (map (λ line. line.now) lines.now)) }
@@ -59,7 +61,7 @@ fn lines_text(alloc: Global, first: &str, lines: &[&str], gaps: usize) -> Result
     Ok(text)
 }
 
-// Appends a line with TABs for its first gaps, and a line feed.
+// Appends a line with TABs in place of its first `gaps` gaps, and a line feed.
 fn push_line(text: &mut String, line: &str, gaps: usize) -> Result<(), AllocError>
     ensures { OnOk result (string_bytes text.new
         ≡ string_bytes text.old ++ lines_text gaps (line.now ∷ [])) }
@@ -102,8 +104,8 @@ fn trimmed_line(line: &str) -> &str
     line.trim_ascii()
 }
 
-// The number of gaps between columns: as many as the first line has, but no more than the fullest
-// line below it.
+// The number of gaps between columns that have names: that of the first line, but no more than that
+// of the fullest line below it. If the first column has no name, that of the fullest line.
 fn column_gaps(lines: &[&str]) -> usize
     ensures { result ≡ column_gaps (map (λ line. line.now) lines.now) }
 {
@@ -115,14 +117,15 @@ fn column_gaps(lines: &[&str]) -> usize
     }
 }
 
-// The gap after the first column's name, if it has none.
+// A TAB if the first column has no name, and otherwise an empty text.
 fn name_gap(lines: &[&str]) -> &'static str
     ensures { result.now ≡ name_gap (map (λ line. line.now) lines.now) }
 {
     if lacks_name(lines) { "\t" } else { "" }
 }
 
-// True if only the first line begins with a gap, and the fullest line below it has one field more.
+// True if the first column has no name: only the first line begins with a gap, and the fullest line
+// below it has one field more.
 fn lacks_name(lines: &[&str]) -> bool
     ensures { result ≡ lacks_name (map (λ line. line.now) lines.now) }
 {
@@ -156,7 +159,7 @@ fn is_indented(line: &str) -> bool
     }
 }
 
-// The number of gaps of the fullest line.
+// The greatest number of gaps of a line.
 fn most_gaps(lines: &[&str]) -> usize
     ensures { result ≡ most_gaps (map (λ line. line.now) lines.now) }
 {
@@ -203,35 +206,35 @@ fn gaps_of(line: &[u8]) -> usize
     gaps
 }
 
-// A space or a TAB.
+// True for a space or a TAB.
 fn is_gap(byte: u8) -> bool
     ensures { result ≡ is_gap byte }
 {
     byte == b' ' || byte == b'\t'
 }
 
-// Appends a line with TABs for its first gaps, at most this many.
+// Appends a line with TABs in place of its first `gaps` gaps, or of all gaps if there are fewer.
 fn push_tabbed(text: &mut String, line: &str, gaps: usize) -> Result<(), AllocError>
     ensures { OnOk result (string_bytes text.new
         ≡ string_bytes text.old ++ tabbed_line gaps line.now) }
 {
     let mut rest = line;
     for _ in 0..gaps {
-        let (field, behind) = split_field(rest);
-        if behind.is_empty() {
+        let (field, after) = split_field(rest);
+        if after.is_empty() {
             break;
         }
         text.push_str(field)?;
         text.push('\t')?;
-        rest = behind;
+        rest = after;
     }
     push_spaced(text, rest)
 }
 
-// The first field of a line, and the rest after the gap that follows it.
+// The first field of a line, and the text after the gap that follows this field.
 fn split_field(line: &str) -> (&str, &str)
     ensures field { result.0.now ≡ first_field line.now }
-    ensures behind { result.1.now ≡ behind_field line.now }
+    ensures after { result.1.now ≡ after_field line.now }
 {
     let (field, rest) = line.split_at(field_len(line.as_bytes()));
     (field, rest.split_at(gap_len(rest.as_bytes())).1)
@@ -244,7 +247,7 @@ fn field_len(bytes: &[u8]) -> usize
     bytes.iter().take_while(|byte| !is_gap(**byte)).count()
 }
 
-// The number of bytes of the gap at the front.
+// The number of bytes of the gap at the start.
 fn gap_len(bytes: &[u8]) -> usize
     ensures { result ≡ prefix_len is_gap bytes.now }
 {
@@ -256,16 +259,16 @@ fn push_spaced(text: &mut String, line: &str) -> Result<(), AllocError>
     ensures { OnOk result (string_bytes text.new ≡ string_bytes text.old ++ spaced line.now) }
 {
     let mut rest = line;
-    while let Some((before, behind)) = split_tab(rest) {
+    while let Some((before, after)) = split_tab(rest) {
         text.push_str(before)?;
         text.push(' ')?;
-        rest = behind;
+        rest = after;
     }
     text.push_str(rest)?;
     Ok(())
 }
 
-// The texts before the first TAB and after it.
+// The texts before and after the first TAB, or `None` if there is no TAB.
 fn split_tab(line: &str) -> Option<(&str, &str)>
     ensures { option_map (λ parts. (parts.0.now, parts.1.now)) result ≡ halves 0x09 line.now }
 {

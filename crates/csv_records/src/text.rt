@@ -1,4 +1,4 @@
-//! The text of an input.
+//! Bytes as a text in UTF-8, and the numbers of lines.
 
 ghost use Rattle.std.specs.Prelude.{◌≡◌, ◌+◌, ◌-◌, ◌||◌, IfErr, IfOk, IsUtf8, length, take};
 ghost use Rattle.csv.specs.Reading.{strip_bom};
@@ -6,8 +6,8 @@ ghost use Rattle.csv_records.specs.Input.{IsTextRefusal, is_like_cp1252, is_open
 
 use crate::error::DecodeError;
 
-/// Bytes below this many lines as a text, which takes no memory. `NotUtf8` has the number of the
-/// line in which they stop being one.
+/// The bytes as a text, without a copy. `above` is the number of lines of the input before these
+/// bytes. The only error is `NotUtf8`, with the line of the first byte that isn't valid in UTF-8.
 pub(crate) fn text_of(bytes: &[u8], above: usize) -> Result<&str, DecodeError>
     ensures same { IfOk result (λ text. text.now ≡ bytes.now) }
     ensures is_text { IfOk result (λ _. IsUtf8 bytes.now) }
@@ -29,36 +29,38 @@ fn is_like_cp1252(bytes: &[u8]) -> bool
     bytes.iter().all(|byte| !(is_stray_control(*byte) || is_open_in_cp1252(*byte)))
 }
 
-// Control characters but TAB, line feed, form feed and carriage return.
+// True for the control characters of ASCII other than TAB, line feed, form feed and carriage
+// return.
 fn is_stray_control(byte: u8) -> bool
     ensures { result ≡ is_stray_control byte }
 {
     byte < 0x20 && !matches!(byte, b'\t' | b'\n' | 0x0C | b'\r') || byte == 0x7F
 }
 
-// The five bytes that Windows-1252 leaves open.
+// True for the five bytes that are undefined in Windows-1252.
 fn is_open_in_cp1252(byte: u8) -> bool
     ensures { result ≡ is_open_in_cp1252 byte }
 {
     matches!(byte, 0x81 | 0x8D | 0x8F | 0x90 | 0x9D)
 }
 
-/// The number of the line in which the end of these bytes is, below this many lines.
+/// The number of the line in which `bytes` end, counted from 1 in the input. `above` is the number
+/// of lines of the input before `bytes`. A number above `u64::MAX` becomes `u64::MAX`.
 pub(crate) fn line_number(above: usize, bytes: &[u8]) -> u64
     ensures { result ≡ line_number above bytes.now }
 {
     (above as u64).saturating_add(line_after(bytes))
 }
 
-/// The number of the line in which the last bytes of a text begin, given how many they are, and how
-/// many lines are above the text.
+/// The number of the line in which the last `last` bytes of a text begin, counted from 1 in the
+/// input. `above` is the number of lines of the input before the text.
 pub(crate) fn line_before(above: usize, text: &str, last: usize) -> u64
     ensures { result ≡ line_number above (take (length text.now - last) text.now) }
 {
     line_number(above, &text.as_bytes()[..text.len().saturating_sub(last)])
 }
 
-// The number of the line in which the end of these bytes is, among them.
+// The number of the line in which `bytes` end, counted from 1 at their start.
 fn line_after(bytes: &[u8]) -> u64
     ensures { result ≡ line_breaks bytes.now + 1 }
 {
@@ -73,7 +75,7 @@ fn line_after(bytes: &[u8]) -> u64
     line
 }
 
-// The text without a byte-order mark in front.
+// The text without a byte-order mark at its start.
 pub(crate) fn without_utf8_mark(text: &str) -> &str
     ensures { result.now ≡ strip_bom text.now }
 {

@@ -11,7 +11,7 @@ use Rattle.comfy_table.proofs.ContentLemmas.{IsClaimFor, all_zip-contents}
 use Rattle.comfy_table.proofs.LevelLemmas.{average_at_least}
 use Rattle.comfy_table.proofs.SpreadLemmas.{IsPartOf, every-claims_beside, every-even_spread, length-even_spread}
 use Rattle.comfy_table.proofs.StepLemmas.{among_settled, count_at-all_claims, left_by, level_has_room, one_others, one_undecided, one_unsettled, room_by}
-use Rattle.comfy_table.proofs.TakenClaimLemmas.{HasRoom, HasShrunk, every_stands, shrunk_where, taken_ends}
+use Rattle.comfy_table.proofs.TakenClaimLemmas.{HasRoom, HasShrunk, each_is_counted, shrunk_where, taken_ends}
 use Rattle.comfy_table.proofs.TakingLemmas.{every-claims_of, next_taken-where}
 use Rattle.comfy_table.proofs.UnconstrainedLemmas.{IsColumnAt, every_column_at}
 use Rattle.comfy_table.specs.Dynamic.{Claim, IsArrangedBy, IsDynamicLayout, IsLevel, IsTakenAfter, Positioned, Steps, added, all_claims, average, content_room, contents_after, even_columns, even_shares, fit_at, fixed_claims, lower_of_boundary, lower_offer, others, places_of, room_left, room_of_others, room_of_unsettled, settled_at, settled_claims, total, undecided, unsettled, upper_at}
@@ -212,7 +212,7 @@ module _ (room : ℕ) (columns : List ColumnNeeds) (full : Bool) (steps : Steps)
       all_zip-contents KeepsBoundary columns (all_claims room columns steps) 0 columns
       (every-both (IsColumnAt columns) (λ (p : Positioned). 0 < count_at p.0 (all_claims room columns steps)) (places_of columns) (every_column_at columns)
       (every-weaker (λ (p : Positioned). 0 < count_at p.0 (places_of columns)) (λ (p : Positioned). 0 < count_at p.0 (all_claims room columns steps)) (places_of columns)
-      (λ p stands. subst (λ (n : ℕ). 0 < n) (sym (count_at-all_claims room columns full steps widths arranged p.0)) stands) (every_stands (places_of columns))))
+      (λ p is_at. subst (λ (n : ℕ). 0 < n) (sym (count_at-all_claims room columns full steps widths arranged p.0)) is_at) (each_is_counted (places_of columns))))
       (every-append (IsClaimFor KeepsBoundary columns) (fixed_claims (places_of columns)) (steps.lower ++ (settled_claims steps.level rest ++ (steps.shrunk ++ even_shares room columns steps))) fixed_for
       (every-append (IsClaimFor KeepsBoundary columns) steps.lower (settled_claims steps.level rest ++ (steps.shrunk ++ even_shares room columns steps)) lower_for
       (every-append (IsClaimFor KeepsBoundary columns) (settled_claims steps.level rest) (steps.shrunk ++ even_shares room columns steps) settled_for
@@ -229,7 +229,7 @@ added_keeps (column ∷ more) (x ∷ xs) (y ∷ ys) same each = (
   added_keeps more xs ys (omega (arith, same)) each.1,
 )
 
--- so each width keeps its boundary
+-- each width of a dynamic layout keeps the boundary of its column
 pub dynamic_keeps_boundaries : (room : ℕ) (columns : List ColumnNeeds) (full : Bool) (widths : List ℕ) → IsDynamicLayout room columns full widths → AllZip KeepsBoundary columns widths
 dynamic_keeps_boundaries room columns full widths (steps, arranged) =
     let contents = contents_keep room columns full steps widths arranged in

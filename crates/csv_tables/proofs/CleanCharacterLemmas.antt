@@ -27,7 +27,7 @@ pub record IsMadeOf (p : ℕ → Bool) (text : Text) : Type 0 where
   pub spell : encode_utf8_all characters ≡ text
   pub pass : list_all p characters ≡ true
 
--- all characters of such a text pass
+-- all characters of a text pass, if it is made of characters that pass
 pub made_passes : (p : ℕ → Bool) (text : Text) → IsMadeOf p text → list_all p (chars text) ≡ true
 made_passes p text is = ap (λ (t : Text). list_all p (chars t)) (sym is.spell) ∙ ap (list_all p) (chars-encodes is.characters is.scalars) ∙ is.pass
 
@@ -60,12 +60,12 @@ module _ (p : ℕ → Bool) where
   abbrev or_feed : ℕ → Bool
   or_feed c = p c || (c == 0x0A)
 
-  behind_feed : (text : Text) → All (IsMadeOf p) (text_lines text) → All (IsMadeOf p) (text_lines (encode_utf8 0x0A ++ text))
+  after_feed : (text : Text) → All (IsMadeOf p) (text_lines text) → All (IsMadeOf p) (text_lines (encode_utf8 0x0A ++ text))
   unfolding encode
-  behind_feed text each = All-cons (IsMadeOf p) [] (text_lines text) (made-nil p) each
+  after_feed text each = All-cons (IsMadeOf p) [] (text_lines text) (made-nil p) each
 
-  behind_character : (c : ℕ) (text : Text) → scalar_of c ≡ true → p c ≡ true → (c == 0x0A) ≡ false → All (IsMadeOf p) (text_lines text) → All (IsMadeOf p) (text_lines (encode_utf8 c ++ text))
-  behind_character c text scalar passes other each =
+  with_character : (c : ℕ) (text : Text) → scalar_of c ≡ true → p c ≡ true → (c == 0x0A) ≡ false → All (IsMadeOf p) (text_lines text) → All (IsMadeOf p) (text_lines (encode_utf8 c ++ text))
+  with_character c text scalar passes other each =
       let lines = lines_of text in
       let own : All (IsMadeOf p) (lines.first ∷ lines.others) = subst (All (IsMadeOf p)) lines.are each in
       subst (All (IsMadeOf p)) (sym (lines-front (encode_utf8 c) text (encoded_clear 0x0A c (omega arith) other) lines.first lines.others lines.are))
@@ -84,8 +84,8 @@ module _ (p : ℕ → Bool) where
 
       by_test : (t : Bool) → (c == 0x0A) ≡ t → scalar_of c ≡ true → or_feed c ≡ true → All (IsMadeOf p) (text_lines (encode_utf8_all cs)) → All (IsMadeOf p) (text_lines (encode_utf8 c ++ encode_utf8_all cs))
       by_test true is scalar either rest =
-          subst (λ (n : ℕ). All (IsMadeOf p) (text_lines (encode_utf8 n ++ encode_utf8_all cs))) (sym (eqb-true c 0x0A is)) (behind_feed (encode_utf8_all cs) rest)
-      by_test false is scalar either rest = behind_character c (encode_utf8_all cs) scalar (own (p c) (c == 0x0A) either is) is rest
+          subst (λ (n : ℕ). All (IsMadeOf p) (text_lines (encode_utf8 n ++ encode_utf8_all cs))) (sym (eqb-true c 0x0A is)) (after_feed (encode_utf8_all cs) rest)
+      by_test false is scalar either rest = with_character c (encode_utf8_all cs) scalar (own (p c) (c == 0x0A) either is) is rest
 
 -- ---- cleaning
 

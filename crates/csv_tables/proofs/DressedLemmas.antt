@@ -48,7 +48,7 @@ module _ (look : Look) (is_bold is_aligned : Bool) (fields : List Text) where
   plain_cells None columns = plain_fields columns
   plain_cells (Some text) columns = ap (λ (cells : List CellValue). with_weight is_bold (cell_for look (Some Right) text) ∷ cells) (plain_fields columns)
 
-  -- the same cells with settings; the cell of the number has none
+  -- the cells that a row shows, with settings; the cell of the number has none
   pub cells_dressed : (is_numbered : Bool) (text : Text) (settings : List CellSettingsValue) (columns more : List ColumnPlan)
       → dressed_cells (placed is_numbered (columns ++ more) settings) (shown_cells look is_bold (shown_number (if is_numbered then Some text else None) ++ shown_fields look is_aligned columns fields))
       ≡ shown_cells look is_bold (shown_number (if is_numbered then Some text else None)) ++ field_cells look is_bold is_aligned settings columns fields

@@ -51,10 +51,10 @@ at_place (y ∷ xs) zero x d rest is = (omega arith, cc is, cc is)
 at_place (y ∷ xs) (suc k) x d rest is = let more = at_place xs k x d rest is in (omega (arith, more.0), more.1, more.2)
 
 -- nothing is left of a list after its end
-pub none_behind : {X : Type 0} (xs : List X) (k : ℕ) → drop k xs ≡ [] → length xs ≤ k
-none_behind [] k is = omega arith
-none_behind (x ∷ xs) zero is = absurd (cc is)
-none_behind (x ∷ xs) (suc k) is = let more = none_behind xs k is in omega (arith, more)
+pub none_after : {X : Type 0} (xs : List X) (k : ℕ) → drop k xs ≡ [] → length xs ≤ k
+none_after [] k is = omega arith
+none_after (x ∷ xs) zero is = absurd (cc is)
+none_after (x ∷ xs) (suc k) is = let more = none_after xs k is in omega (arith, more)
 
 -- the rows of columns and of more columns
 pub pairs-append : (look : Look) (columns more : List ColumnPlan) (names fields : List Text) → pairs_of look (columns ++ more) names fields ≡ pairs_of look columns names fields ++ pairs_of look more names fields

@@ -44,8 +44,8 @@ fields-within table i = below_header i table.custom_styling (measured table) (λ
 -- ---- lines that fit
 
 -- a text line that fits a width stays as it is
-pub stands : (width delimiter : ℕ) (line : Text) → measure line ≤ width → lines_of_text width delimiter line ≡ line ∷ []
-stands width delimiter line short = ap (λ (b : Bool). if b then line ∷ [] else wrapped width delimiter line) (le-leb (measure line) width short)
+pub stays_whole : (width delimiter : ℕ) (line : Text) → measure line ≤ width → lines_of_text width delimiter line ≡ line ∷ []
+stays_whole width delimiter line short = ap (λ (b : Bool). if b then line ∷ [] else wrapped width delimiter line) (le-leb (measure line) width short)
 
 -- the greatest value over concatenated parts
 parts : {X : Type 0} (f : Text → ℕ) (g : X → List Text) (x : X) (xs : List X) → greatest (map f (flat_map g (x ∷ xs))) ≡ max (greatest (map f (g x))) (greatest (map f (flat_map g xs)))
@@ -55,7 +55,7 @@ module _ (table : TableValue) (delimiter : Option ℕ) (n : ℕ) where
   lines-long : (d : ℕ) (lines : List Text) → greatest (map measure lines) ≤ n → greatest (map measure lines) ≤ greatest (map measure (flat_map (lines_of_text n d) lines))
   lines-long d [] short = omega arith
   lines-long d (line ∷ lines) short =
-      let own : greatest (map measure (lines_of_text n d line)) ≡ greatest (measure line ∷ []) = ap (λ (ls : List Text). greatest (map measure ls)) (stands n d line (omega (arith, short))) in
+      let own : greatest (map measure (lines_of_text n d line)) ≡ greatest (measure line ∷ []) = ap (λ (ls : List Text). greatest (map measure ls)) (stays_whole n d line (omega (arith, short))) in
       let more = lines-long d lines (omega (arith, short)) in
       omega (arith, own, more, parts measure (lines_of_text n d) line lines)
 

@@ -14,7 +14,7 @@ use Rattle.comfy_parts.proofs.CallerLemmas.{All-every, IsUtf8-printable, ascii-p
 use Rattle.comfy_parts.specs.Text.{Text, is_printable_ascii, spaces}
 use Rattle.csv.specs.Records.{field_at}
 use Rattle.csv_records.specs.Cleaning.{visible_of}
-use Rattle.csv_records.specs.Decimals.{byte_of, digits_in, fraction_len, has_mark, is_plain, marks_of, points_of, spaces_behind, use_of}
+use Rattle.csv_records.specs.Decimals.{byte_of, digits_in, fraction_len, has_mark, is_plain, marks_of, points_of, trailing_spaces, use_of}
 use Rattle.csv_records.specs.Number.{from_other, halves, is_neutral, is_outer, is_space, to_other, trimmed}
 use Rattle.csv_records.specs.declared.decimals.ColumnMarks.{ColumnMarks}
 use Rattle.csv_records.specs.declared.decimals.DecimalMark.{DecimalMark}
@@ -140,7 +140,7 @@ spaces_printable : (n : ℕ) → Printable (spaces n)
 spaces_printable zero = refl
 spaces_printable (suc n) = spaces_printable n
 
-spaced-short : (points : Points) (field : Text) → points.longest ≤ 26 → Narrow field → IsShortPrintable 64 (field ++ spaces (spaces_behind points field))
+spaced-short : (points : Points) (field : Text) → points.longest ≤ 26 → Narrow field → IsShortPrintable 64 (field ++ spaces (trailing_spaces points field))
 spaced-short points field least narrow = (
   list_all-append (is_in_range 0x20 0x7E) field (spaces n) ∙ ap₂ (λ (a b : Bool). a && b) both.1 (spaces_printable n),
   (let few = leb-true (length field) 25 both.0 in
@@ -150,7 +150,7 @@ spaced-short points field least narrow = (
 )
   where
     n : ℕ
-    n = spaces_behind points field
+    n = trailing_spaces points field
 
     both : (nat_le (length field) 25 ≡ true) × (is_printable_ascii field ≡ true)
     both = and_parts (nat_le (length field) 25) (is_printable_ascii field) narrow
@@ -254,7 +254,7 @@ module _ (R : Text → Type 0) (empty : R []) (gives : (text : Text) → IsShort
 text_field : (keeps : Bool) (mark : Option Points) (field : Text) → IsUtf8 field → IsUtf8 (spaced keeps mark field)
 text_field keeps None field own = own
 text_field keeps (Some points) field own =
-    let n = spaces_behind points (visible_of keeps field) in
+    let n = trailing_spaces points (visible_of keeps field) in
     IsUtf8-append field (spaces n) own (IsUtf8-printable (spaces n) (spaces_printable n))
 
 pub text_drawn : (look : Look) (is_aligned : Bool) (column : ColumnPlan) (fields : List Text) → All IsUtf8 fields → IsUtf8 (text_in look is_aligned column fields)

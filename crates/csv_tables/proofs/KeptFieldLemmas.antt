@@ -27,7 +27,7 @@ use Rattle.comfy_table.specs.Levels.{HasLevel, IsFull, IsLevelled, IsLevelledAt,
 use Rattle.comfy_table.specs.Lines.{cell_delimiter, cell_lines, longest_line}
 use Rattle.comfy_table.specs.TableValue.{TableValue, cell_content_width, column_cells, column_content_width, max_content_widths, shown_columns, table_width, with_rows}
 use Rattle.comfy_table.specs.Widths.{ColumnNeeds, even_spread, needs_of, part_of, shown_count, shown_needs}
-use Rattle.csv_tables.proofs.FieldNeedLemmas.{stands}
+use Rattle.csv_tables.proofs.FieldNeedLemmas.{stays_whole}
 use Rattle.csv_tables.proofs.KeptWidthLemmas.{IsFixedAt, fixed_is_kept, kept_arrangement, le-added}
 use Rattle.csv_tables.proofs.LineLemmas.{Any, any_built, any_drawn, kept_setting}
 use Rattle.csv_tables.proofs.SeparatorLemmas.{separated}
@@ -137,7 +137,7 @@ longest-least table i delimiter width k default below j other inside short =
     let of_cell = All-from_recursion (λ (c : CellValue). greatest (map measure (lines_of c)) ≤ greatest (map measure (flat_map lines_of cells))) cells (parts-within measure lines_of cells) k default below in
     let of_line =
     All-from_recursion (λ (l : Text). greatest (map measure (lines_of_text width d l)) ≤ greatest (map measure (flat_map (lines_of_text width d) cell.text_lines))) cell.text_lines (parts-within measure (lines_of_text width d) cell.text_lines) j other inside in
-    let own : greatest (map measure (lines_of_text width d line)) ≡ greatest (measure line ∷ []) = ap (λ (ls : List Text). greatest (map measure ls)) (stands width d line short) in
+    let own : greatest (map measure (lines_of_text width d line)) ≡ greatest (measure line ∷ []) = ap (λ (ls : List Text). greatest (map measure ls)) (stays_whole width d line short) in
     omega (arith, of_cell, of_line, own)
 
 -- ---- a table of two columns

@@ -164,7 +164,7 @@ module _ (table : TableValue) (new : AllByRecursion IsNewColumn table.columns) (
       (λ x fixed. let wide = fixed-boundary (column_content_width with i) (column_padding own.0) (reserved_width level whole table i) x two (omega (arith, given, some)) fixed in omega (arith, given, wide))
       (omega (arith, given, l, two)) (fields-within table i) (λ n enough. fields-longest table i own.0.delimiter n small enough)
 
-  -- the same for a column without content
+  -- a column of numbers and dates is at least as wide as its fields, also without content
   pub fields_are_kept : width_kept with.arrangement (Some w) ≡ Some w → table_width with ≡ Some w → slice_get whole.nowrap i ≡ Some true → i < length table.columns → IsArranged with widths → fields < 65535 → fields ≤ slice_index widths i
   fields_are_kept kept known is below arranged small = ⊎_elim (λ none. omega (arith, none)) (λ some. some_is_kept kept known is below arranged small some) (eq-zero-or-pos fields)
 
@@ -182,7 +182,7 @@ NoWrapColumnsAreWhole look content =
     → slice_get (nowrap_in content) i ≡ Some true
     → fields_need true table i ≤ slice_index widths i
 
--- they are this wide if the width has room for them
+-- columns of numbers and dates are at least as wide as their fields if the width has room for them
 room_keeps_whole : (w : ℕ) (look : Look) (content : SelectedValue) → w ≤ 65535 → look.width ≡ Some w → has_room (Some w) (wanted_in look content) (rows_table look (is_aligned_in look content) content) ≡ true → is_expanded_for look content ≡ false → NoWrapColumnsAreWhole look content
 room_keeps_whole w look content small wide room none table widths i is_drawn arranged below is = subst (λ (t : TableValue). fields_need true t i ≤ slice_index widths i) (sym same) kept
   where
@@ -286,7 +286,8 @@ none_without look content empty table widths i is_drawn arranged below is =
     absurd (none_in content.is_numbered content.columns i
     (subst (λ (b : Bool). slice_get ((if content.is_numbered then not b ∷ [] else []) ++ map (λ (column : ColumnPlan). not b && column.is_nowrap) content.columns) i ≡ Some true) empty is))
 
--- with `auto`, they are this wide if records aren't expanded
+-- with `auto`, columns of numbers and dates are at least as wide as their fields if records aren't
+-- expanded
 pub auto_keeps_whole : (w : ℕ) (look : Look) (content : SelectedValue) → w ≤ 65535 → look.is_markdown ≡ false → look.width ≡ Some w → look.expansion ≡ Auto → is_expanded_for look content ≡ false → NoWrapColumnsAreWhole look content
 auto_keeps_whole w look content small table wide auto none = by_rows (length content.rows == 0) refl
   where

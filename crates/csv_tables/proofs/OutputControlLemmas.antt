@@ -57,15 +57,15 @@ use Rattle.csv_tables.specs.Laws.{HasLines, IsOutputWith}
 abbrev pub HasNoneReplaced : Text → Type 0
 HasNoneReplaced text = NoCharPasses is_replaced text
 
--- such a text of UTF-8
+-- a text of UTF-8 in which no character is replaced
 abbrev pub IsClearText : Text → Type 0
 IsClearText text = IsUtf8 text × HasNoneReplaced text
 
--- the visible part of a text line is such a text
+-- the visible part of a text line is UTF-8, and no character of it is replaced
 abbrev IsClearLine : Bool → Text → Type 0
 IsClearLine keeps line = IsClearText (visible_of keeps line)
 
--- the same for all text lines of a row
+-- this holds for the visible part of each text line of a row
 abbrev IsClearRow : Bool → RowValue → Type 0
 IsClearRow keeps row = All (λ (cell : CellValue). All (IsClearLine keeps) cell.text_lines) row.cells
 
@@ -336,7 +336,7 @@ module _ (L G : Text → Type 0) (good : IsOfLines L G) where
       by_test true = by_markdown is_markdown
       by_test false = good.nothing
 
-  -- a text of such lines, and the text after it
+  -- G holds for a text of lines for which L holds, followed by a text for which G holds
   after_text : (is_expanded : Bool) (content : SelectedValue) (lines : List Text) (text rest : Text) → HasLines is_expanded content lines text → All L lines → G rest → G (text ++ rest)
   after_text false content lines text rest are none more = subst (λ (t : Text). G (t ++ rest)) (sym are.joined) (after_lines lines rest none more)
   after_text true content lines text rest (parts, within, unbroken, is) none more =
@@ -354,7 +354,7 @@ module _ (L G : Text → Type 0) (good : IsOfLines L G) where
           (after_record_line content.noun (at + 1) content.count (part ++ (flat_map one places ++ rest))
           (after_lines (parts at) (flat_map one places ++ rest) (All-weaker (Contains lines) L (λ l in_lines. All-contains L lines l none in_lines) (parts at) (within at)) (records places)))
 
-  -- an output of such lines
+  -- G holds for an output of lines for which L holds
   pub output_of_lines : (counted : Option ℕ) (layout : Layout) (records : List (List Text)) (output : Text) (lines : List Text) → IsOutputWith counted layout records output lines → All L lines → G output
   output_of_lines counted layout records output lines made none =
       subst G (sym made.joined)

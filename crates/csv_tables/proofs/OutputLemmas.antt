@@ -86,7 +86,7 @@ header_and_rows table infos none = grind (arith, append_assoc, append-nil, same 
     same [] = refl
     same (x ∷ xs) = ap (λ (s : List Text). (s ++ lines x) ++ flat_map (λ (row : RowValue). between ++ lines row) xs) none
 
--- the same for a table for Markdown
+-- a table for Markdown has the lines of its header and those of its rows
 pub markdown_parts : (look : Look) (content : SelectedValue) (arranged : ArrangedValue) → arranged.table ≡ markdown_table look content
     → part_of_drawing arranged.table arranged.infos true false [] ++ part_of_drawing arranged.table arranged.infos false true arranged.table.rows ≡ drawing_of_infos arranged.table arranged.infos
 markdown_parts look content arranged own =

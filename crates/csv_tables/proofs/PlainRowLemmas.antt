@@ -18,7 +18,7 @@ use Rattle.comfy_parts.specs.declared.style.cell.CellAlignment.TheVariants.{Righ
 use Rattle.csv_records.proofs.CleaningLemmas.{drawn_so, harmless_so, none_harmful, none_replaced}
 use Rattle.csv_records.specs.Cleaning.{cleaned, is_harmful, is_replaced}
 use Rattle.csv_tables.proofs.BuiltLemmas.{blank_drawn}
-use Rattle.csv_tables.proofs.ShownLemmas.{shown_behind, spaces_printable}
+use Rattle.csv_tables.proofs.ShownLemmas.{shown_after, spaces_printable}
 use Rattle.csv_tables.specs.Cells.{Shown, cell_for, columns_within, field_text, is_blank, marked, number_of, shown_cells, shown_fields, shown_number, text_in, unless_blank, with_weight}
 use Rattle.csv_tables.proofs.MarkedLemmas.{marked_stays}
 use Rattle.csv_tables.specs.Contents.{IsKept, plain_by, shown_by}
@@ -114,11 +114,11 @@ abbrev pub cell_of_column : RecordRows → List Text → ColumnPlan → CellValu
 cell_of_column rows fields column = cell_for rows.look column.alignment (text_in rows.look rows.is_aligned column fields)
 
 -- the cell of a column, after the cell of the number
-pub cell_behind : (rows : RecordRows) (fields : List Text) (column : ColumnPlan) (at position place : ℕ) → position ≡ place + (if rows.selected.is_numbered then 1 else 0)
+pub cell_after : (rows : RecordRows) (fields : List Text) (column : ColumnPlan) (at position place : ℕ) → position ≡ place + (if rows.selected.is_numbered then 1 else 0)
     → slice_get (columns_within fields rows.selected.columns) place ≡ Some column → slice_get (plain_by rows at fields).cells position ≡ Some (cell_of_column rows fields column)
-cell_behind rows fields column at position place stands found =
+cell_after rows fields column at position place is_at found =
     slice_get-map (λ (s : Shown). cell_for rows.look s.alignment s.text) (shown_by rows at fields) position
-    ∙ ap (option_map (λ (s : Shown). cell_for rows.look s.alignment s.text)) (shown_behind rows fields column at position place stands found)
+    ∙ ap (option_map (λ (s : Shown). cell_for rows.look s.alignment s.text)) (shown_after rows fields column at position place is_at found)
 
 -- rows are numbered if one of them has a number
 pub some_number : (is_numbered : Bool) (n number : ℕ) → Some (decimal number) ≡ number_of is_numbered n → is_numbered ≡ true

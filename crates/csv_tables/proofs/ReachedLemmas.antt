@@ -117,16 +117,16 @@ reached-at fields (column ∷ columns) zero d found = by_any (list_any (has_fiel
         let parts = or_parts (has_field fields column) (list_any (has_field fields) columns) is in
         let same : column ≡ d = cc found in
         rw is (inr (refl, no_field fields d.position (ap (has_field fields) (sym same) ∙ parts.0)))
-reached-at fields (column ∷ columns) (suc k) d found = by_any (list_any (has_field fields) (column ∷ columns)) refl (reached-at fields columns k d found) (behind columns k found)
+reached-at fields (column ∷ columns) (suc k) d found = by_any (list_any (has_field fields) (column ∷ columns)) refl (reached-at fields columns k d found) (after columns k found)
   where
     -- the columns after those that are reached have no field
-    behind : (columns : List ColumnPlan) (k : ℕ) → slice_get columns k ≡ Some d → list_any (has_field fields) columns ≡ false → has_field fields d ≡ false
-    behind [] k found none = absurd (cc found)
-    behind (column ∷ columns) zero found none =
+    after : (columns : List ColumnPlan) (k : ℕ) → slice_get columns k ≡ Some d → list_any (has_field fields) columns ≡ false → has_field fields d ≡ false
+    after [] k found none = absurd (cc found)
+    after (column ∷ columns) zero found none =
         let parts = or_parts (has_field fields column) (list_any (has_field fields) columns) none in
         let same : column ≡ d = cc found in ap (has_field fields) (sym same) ∙ parts.0
-    behind (column ∷ columns) (suc k) found none =
-        let parts = or_parts (has_field fields column) (list_any (has_field fields) columns) none in behind columns k found parts.1
+    after (column ∷ columns) (suc k) found none =
+        let parts = or_parts (has_field fields column) (list_any (has_field fields) columns) none in after columns k found parts.1
 
     by_any : (b : Bool) → list_any (has_field fields) (column ∷ columns) ≡ b
         → (slice_get (columns_within fields columns) k ≡ Some d) ⊎ ((slice_get (columns_within fields columns) k ≡ None) × (field_or_blank fields d.position ≡ []))

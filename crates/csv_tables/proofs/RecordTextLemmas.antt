@@ -32,15 +32,15 @@ module _ (rows : RecordRows) where
   as_many fields = length-map (held fields rows.selected.columns) (λ (column : ColumnPlan). pair_for rows.look (name_at (unwrap_or rows.selected.names []) column.position) (field_or_blank fields column.position))
 
   -- the rows after those of the first records
-  rows_behind : (at : ℕ) (records : List (List Text)) → drop (sum_by (drawn_fields rows.selected) (take at records)) (flat_map (pairs_by rows) records) ≡ flat_map (pairs_by rows) (drop at records)
-  rows_behind zero records = refl
-  rows_behind (suc at) [] = refl
-  rows_behind (suc at) (x ∷ xs) =
+  rows_after : (at : ℕ) (records : List (List Text)) → drop (sum_by (drawn_fields rows.selected) (take at records)) (flat_map (pairs_by rows) records) ≡ flat_map (pairs_by rows) (drop at records)
+  rows_after zero records = refl
+  rows_after (suc at) [] = refl
+  rows_after (suc at) (x ∷ xs) =
       let first = pairs_by rows x in
       let rest = flat_map (pairs_by rows) xs in
       let s = sum_by (drawn_fields rows.selected) (take at xs) in
       let count : sum_by (drawn_fields rows.selected) (x ∷ take at xs) ≡ length first + s = sum_by-cons (drawn_fields rows.selected) x (take at xs) ∙ ap (λ n. n + s) (sym (as_many x)) in
-      ap (λ n. drop n (first ++ rest)) count ∙ drop-append-add first rest s ∙ rows_behind at xs
+      ap (λ n. drop n (first ++ rest)) count ∙ drop-append-add first rest s ∙ rows_after at xs
 
   module _ (arranged : ArrangedValue) (own : arranged.table.rows ≡ flat_map (pairs_by rows) rows.selected.rows) where
     -- the part of the table with the fields of a record
@@ -52,10 +52,10 @@ module _ (rows : RecordRows) where
     part_is at fields left is (suc n) (row ∷ more) made long =
         let first = sum_by (drawn_fields rows.selected) (take at rows.selected.rows) in
         let rest = flat_map (pairs_by rows) left in
-        let behind : drop first arranged.table.rows ≡ (row ∷ more) ++ rest =
-        ap (drop first) own ∙ rows_behind at rows.selected.rows ∙ ap (flat_map (pairs_by rows)) (sym is) ∙ ap (λ (l : List RowValue). l ++ rest) made in
+        let after : drop first arranged.table.rows ≡ (row ∷ more) ++ rest =
+        ap (drop first) own ∙ rows_after at rows.selected.rows ∙ ap (flat_map (pairs_by rows)) (sym is) ∙ ap (λ (l : List RowValue). l ++ rest) made in
         let taken : take (suc n) (drop first arranged.table.rows) ≡ row ∷ more =
-        ap (take (suc n)) behind ∙ take-append-le (suc n) (row ∷ more) rest (omega (arith, long)) ∙ take_all (suc n) (row ∷ more) (omega (arith, long)) in
+        ap (take (suc n)) after ∙ take-append-le (suc n) (row ∷ more) rest (omega (arith, long)) ∙ take_all (suc n) (row ∷ more) (omega (arith, long)) in
         let other = with_other_rows (row ∷ more) arranged.table in
         ap terminated_text_of (sym (part_same arranged.table (row ∷ more) arranged.infos true true (row ∷ more)) ∙ part-whole other arranged.infos)
         ∙ ap (λ (l : List RowValue). terminated_text_of (drawing_of_infos (with_other_rows l arranged.table) arranged.infos)) (sym taken)

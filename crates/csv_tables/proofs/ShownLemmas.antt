@@ -23,10 +23,10 @@ spaces_printable (suc n) = spaces_printable n
 -- ---- what a row shows
 
 -- the fields of a row come after its number
-pub shown_behind : (rows : RecordRows) (fields : List Text) (column : ColumnPlan) (at position place : ℕ) → position ≡ place + (if rows.selected.is_numbered then 1 else 0)
+pub shown_after : (rows : RecordRows) (fields : List Text) (column : ColumnPlan) (at position place : ℕ) → position ≡ place + (if rows.selected.is_numbered then 1 else 0)
     → slice_get (columns_within fields rows.selected.columns) place ≡ Some column
     → slice_get (shown_by rows at fields) position ≡ Some (record { alignment = column.alignment; text = text_in rows.look rows.is_aligned column fields })
-shown_behind rows fields column at position place stands found = by_number rows.selected.is_numbered stands
+shown_after rows fields column at position place is_at found = by_number rows.selected.is_numbered is_at
   where
     drawn : List ColumnPlan
     drawn = columns_within fields rows.selected.columns
@@ -65,21 +65,21 @@ as_many_cells rows at fields =
 
 -- a width after one more cell
 pub one_wider : (had : ℕ) (f : ℕ → ℕ) (i k : ℕ) → max (max had (if nat_lt i k then f i else 0)) (if i == k then f k else 0) ≡ max had (if nat_lt i (k + 1) then f i else 0)
-one_wider had f i k = ⊎_elim (λ before. grind (arith, nat_tests, before)) (λ behind. by_test (i == k) refl behind) (cases_lt i k)
+one_wider had f i k = ⊎_elim (λ before. grind (arith, nat_tests, before)) (λ after. by_test (i == k) refl after) (cases_lt i k)
   where
     by_test : (b : Bool) → (i == k) ≡ b → k ≤ i → max (max had (if nat_lt i k then f i else 0)) (if b then f k else 0) ≡ max had (if nat_lt i (k + 1) then f i else 0)
-    by_test true is behind =
+    by_test true is after =
         let here : i ≡ k = eqb-true i k is in
         let same = ap f here in
-        let at : nat_lt i k ≡ false = grind (arith, nat_tests, behind) in
+        let at : nat_lt i k ≡ false = grind (arith, nat_tests, after) in
         let above : nat_lt i (k + 1) ≡ true = grind (arith, nat_tests, here) in
         let one = ap (λ b. if b then f i else 0) at in
         let two = ap (λ b. if b then f i else 0) above in
         omega (arith, one, two, same)
-    by_test false is behind =
+    by_test false is after =
         let other : i ≢ k = eqb-false i k is in
-        let at : nat_lt i k ≡ false = grind (arith, nat_tests, behind) in
-        let above : nat_lt i (k + 1) ≡ false = grind (arith, nat_tests, behind, other) in
+        let at : nat_lt i k ≡ false = grind (arith, nat_tests, after) in
+        let above : nat_lt i (k + 1) ≡ false = grind (arith, nat_tests, after, other) in
         let one = ap (λ b. if b then f i else 0) at in
         let two = ap (λ b. if b then f i else 0) above in
         omega (arith, one, two)

@@ -8,7 +8,7 @@ use Rattle.comfy_parts.specs.CellValue.{RowValue}
 use Rattle.comfy_parts.specs.Text.{Text, spaces}
 use Rattle.comfy_table.specs.TableValue.{with_rows}
 use Rattle.csv_records.specs.Cleaning.{visible_of}
-use Rattle.csv_records.specs.Decimals.{spaces_behind}
+use Rattle.csv_records.specs.Decimals.{trailing_spaces}
 use Rattle.csv_records.specs.Number.{is_neutral}
 use Rattle.csv_records.specs.declared.decimals.Points.{Points}
 use Rattle.csv_tables.specs.Cells.{Shown, cells_for, counted_from, cut, has_field, number_of, columns_within, row_for, shown_fields, shown_number, text_in}
@@ -25,14 +25,14 @@ unseen true = refl
 unseen false = refl
 
 -- an empty field needs no spaces
-no_spaces : (points : Points) → spaces_behind points [] ≡ 0
+no_spaces : (points : Points) → trailing_spaces points [] ≡ 0
 unfolding chars is_neutral
 no_spaces points = refl
 
 -- an empty field stays empty
 pub spaced-blank : (keeps : Bool) (mark : Option Points) → spaced keeps mark [] ≡ []
 spaced-blank keeps None = refl
-spaced-blank keeps (Some points) = ap spaces (ap (spaces_behind points) (unseen keeps) ∙ no_spaces points)
+spaced-blank keeps (Some points) = ap spaces (ap (trailing_spaces points) (unseen keeps) ∙ no_spaces points)
 
 -- a column shows nothing of an empty field
 pub blank_text : (look : Look) (is_aligned : Bool) (column : ColumnPlan) (fields : List Text) → field_or_blank fields column.position ≡ [] → text_in look is_aligned column fields ≡ []
@@ -108,7 +108,7 @@ module _ (look : Look) where
         ap (λ (b : Bool). rows_table look b content) (sym (ap₂ (λ a b. a && b) (and_parts look.aligns_decimals (has_points content.columns) (sym is)).0 (sym own)))
     fits content true false is own drawn = absurd (cc drawn)
 
-    -- the test for room gives the same for it
+    -- the test for room gives the same for the table that is drawn
     pub fits_in : (content : SelectedValue) (aligns has : Bool) → aligns ≡ look.aligns_decimals && has_points content.columns → has ≡ room aligns → has || not aligns ≡ true → (has_points content.columns ≡ false → room true ≡ room false)
         → room aligns ≡ room (look.aligns_decimals && room true)
     fits_in content true true is own drawn same = ap room (sym (ap₂ (λ a b. a && b) (and_parts look.aligns_decimals (has_points content.columns) (sym is)).0 (sym own)))

@@ -141,7 +141,7 @@ default_rows look =
         All-cons (λ (cell : CellValue). cell.delimiter ≡ None) (with_weight look.has_bold_header (cell_for look None name)) (cell_for look None field ∷ []) (weighted look.has_bold_header (cell_for look None name) refl)
         (All-cons (λ (cell : CellValue). cell.delimiter ≡ None) (cell_for look None field) [] refl (All-nil (λ (cell : CellValue). cell.delimiter ≡ None)))
 
--- such a row with a property P of its texts
+-- a row whose cells have no delimiter of their own, with a property P of its texts
 pub record IsDefaultRowOf (P : Text → Type 0) (row : RowValue) : Type 0 where
   pub no_delimiters : IsDefaultRow row
   pub each : EachCellText P row
@@ -162,7 +162,7 @@ abbrev pub IsSeenTable : Bool → Look → TableValue → Type 0
 IsSeenTable false look table = look.has_bold_header ≡ false
 IsSeenTable true look table = IsFreeOfControls table
 
--- no control character is visible in the lines of such a table
+-- no control character is visible in the lines of a table for which `IsSeenTable` holds
 pub clear_lines : (visible : Bool) (look : Look) (table : TableValue) (lines : List Text) → IsTableDrawing table lines → IsSeenTable visible look table → visible ≡ true → All HasNoControl (seen_lines visible lines)
 clear_lines true look table lines drawing free is = All-map HasNoControl visible_text lines (drawing.controls.without_controls free)
 clear_lines false look table lines drawing plain is = absurd (cc is)

@@ -63,12 +63,12 @@ module _ where
   abbrev IsPlain : Text → Type 0
   IsPlain text = NoCharPasses is_replaced text
 
-  behind_line_feed : (text : Text) → All IsPlain (text_lines text) → All IsPlain (text_lines (encode_utf8 0x0A ++ text))
+  after_line_feed : (text : Text) → All IsPlain (text_lines text) → All IsPlain (text_lines (encode_utf8 0x0A ++ text))
   unfolding encode
-  behind_line_feed text each = All-cons IsPlain [] (text_lines text) (NoCharPasses-nil is_replaced) each
+  after_line_feed text each = All-cons IsPlain [] (text_lines text) (NoCharPasses-nil is_replaced) each
 
-  behind_character : (c : ℕ) (text : Text) → is_replaced c ≡ false → (c == 0x0A) ≡ false → All IsPlain (text_lines text) → All IsPlain (text_lines (encode_utf8 c ++ text))
-  behind_character c text plain other each =
+  with_character : (c : ℕ) (text : Text) → is_replaced c ≡ false → (c == 0x0A) ≡ false → All IsPlain (text_lines text) → All IsPlain (text_lines (encode_utf8 c ++ text))
+  with_character c text plain other each =
       let lines = lines_of text in
       let own : All IsPlain (lines.first ∷ lines.others) = subst (All IsPlain) lines.are each in
       let one : IsPlain (encode_utf8 c) = (c ∷ [], append-nil (encode_utf8 c), (plain, tt)) in
@@ -81,8 +81,8 @@ module _ where
     where
       by_test : (t : Bool) → (c == 0x0A) ≡ t → All IsPlain (text_lines (encode_utf8_all cs)) → All IsPlain (text_lines (encode_utf8 c ++ encode_utf8_all cs))
       by_test true is rest =
-          subst (λ (n : ℕ). All IsPlain (text_lines (encode_utf8 n ++ encode_utf8_all cs))) (sym (eqb-true c 0x0A is)) (behind_line_feed (encode_utf8_all cs) rest)
-      by_test false is rest = behind_character c (encode_utf8_all cs) (harmless_is_plain c own is) is rest
+          subst (λ (n : ℕ). All IsPlain (text_lines (encode_utf8 n ++ encode_utf8_all cs))) (sym (eqb-true c 0x0A is)) (after_line_feed (encode_utf8_all cs) rest)
+      by_test false is rest = with_character c (encode_utf8_all cs) (harmless_is_plain c own is) is rest
 
 -- ---- what is visible of text lines
 
@@ -90,7 +90,7 @@ module _ where
 abbrev AreShown : Text → Text → Type 0
 AreShown text shown = map visible_text (text_lines text) ≡ text_lines shown
 
--- the same after a prefix without line feeds, whose visible text is known
+-- `AreShown` also holds with a prefix without line feeds, whose visible text is known
 shown-front : (front shown text rest : Text) → HasNo 0x0A front → HasNo 0x0A shown → ((more : Text) → visible_text (front ++ more) ≡ shown ++ visible_text more) → AreShown text rest → AreShown (front ++ text) (shown ++ rest)
 shown-front front shown text rest clear own shows are =
     let lines = lines_of text in
@@ -98,19 +98,19 @@ shown-front front shown text rest clear own shows are =
     ∙ ap (λ (first : Text). first ∷ map visible_text lines.others) (shows lines.first)
     ∙ sym (lines-front shown rest own (visible_text lines.first) (map visible_text lines.others) (sym are ∙ ap (map visible_text) lines.are))
 
--- the same after a line feed
+-- `AreShown` also holds with a line feed before both texts
 shown-line_feed : (text rest : Text) → AreShown text rest → AreShown (0x0A ∷ text) (0x0A ∷ rest)
 shown-line_feed text rest are = ap (λ (others : List Text). [] ∷ others) are
 
--- the same after scanned parts whose visible bytes aren't ESC
+-- `AreShown` also holds with scanned parts before the texts, if their visible bytes aren't ESC
 shown-parts : (ps : List Part) (rest : Text) → AreScanned ps rest → HasNo 0x1B (flat_map visible_bytes ps) → AreShown (bytes_of ps) (flat_map visible_bytes ps)
 shown-parts [] rest scanned clear = refl
 shown-parts (p ∷ ps) rest (inl part, more) clear =
     let s = part.sequence in
-    let behind = shown-parts ps rest more (subst (λ (x : Part). HasNo 0x1B (flat_map visible_bytes (x ∷ ps))) part.is clear) in
+    let after = shown-parts ps rest more (subst (λ (x : Part). HasNo 0x1B (flat_map visible_bytes (x ∷ ps))) part.is clear) in
     subst (λ (x : Part). AreShown (p.bytes ++ bytes_of ps) (flat_map visible_bytes (x ∷ ps))) (sym part.is)
     (subst (λ (t : Text). AreShown (t ++ bytes_of ps) (flat_map visible_bytes ps)) (sym s.is)
-    (shown-front (sequence_of s.code) [] (bytes_of ps) (flat_map visible_bytes ps) (sequence_clear s.code s.parameters) refl (Shows-sequence s.code s.parameters).shows behind))
+    (shown-front (sequence_of s.code) [] (bytes_of ps) (flat_map visible_bytes ps) (sequence_clear s.code s.parameters) refl (Shows-sequence s.code s.parameters).shows after))
 shown-parts (p ∷ ps) rest (inr part, more) clear =
     let both = or_parts (part.byte == 0x1B) (list_any (λ x. x == 0x1B) (flat_map visible_bytes ps)) (subst (λ (x : Part). HasNo 0x1B (flat_map visible_bytes (x ∷ ps))) part.is clear) in
     subst (λ (x : Part). AreShown (bytes_of (x ∷ ps)) (flat_map visible_bytes (x ∷ ps))) (sym part.is)

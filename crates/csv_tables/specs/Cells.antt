@@ -41,7 +41,7 @@ abbrev pub cell_for : Look → Option CellAlignment → Text → CellValue
 cell_for look alignment field =
     record (plain_cell (field_text look field)) { alignment = alignment }
 
--- a cell, in bold or unchanged
+-- a cell, in bold if `is_bold` is true, and otherwise unchanged
 abbrev pub with_weight : Bool → CellValue → CellValue
 with_weight is_bold cell =
     if is_bold then record cell { attributes = cell.attributes ++ Bold ∷ [] } else cell
@@ -81,7 +81,8 @@ shown_fields look is_aligned columns fields =
       text = text_in look is_aligned column fields;
     }) columns
 
--- a record's number, or the name above the numbers, right-aligned; nothing without numbers
+-- a record's number, or the name above these numbers, right-aligned; nothing if rows aren't
+-- numbered
 abbrev pub shown_number : Option Text → List Shown
 shown_number None = []
 shown_number (Some text) = record { alignment = Some Right; text = text } ∷ []

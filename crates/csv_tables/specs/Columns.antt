@@ -37,7 +37,7 @@ filled_count names rows =
     (max 1
     (fold (λ (n : ℕ) (fields : List Text). max n (filled_len fields)) (filled_len names) rows))
 
--- what is seen of a record's fields: where sequences are kept, they aren't
+-- the visible text of each field of a record: without its SGR sequences, if these are kept
 abbrev pub seen : Bool → List Text → List Text
 seen keeps_sequences fields = map (visible_of keeps_sequences) fields
 

@@ -101,12 +101,12 @@ greatest_at table f rows i = greatest (map (measured_at table f) (cells_at rows 
 abbrev pub most_cells : List RowValue → ℕ
 most_cells rows = greatest (map (λ (row : RowValue). length row.cells) rows)
 
--- A cleaned field with `behind` spaces after it is drawn without further spaces and without
+-- A cleaned field with `after` spaces after it is drawn without further spaces and without
 -- backslashes, and isn't emptied.
 abbrev pub IsKept : Look → Text → ℕ → Type 0
-IsKept look field behind =
-    (look.is_markdown ≡ false) × ((is_blank field ≡ false) ⊎ (field ++ spaces behind ≡ []))
-    ⊎ (look.is_markdown ≡ true) × (behind ≡ 0)
+IsKept look field after =
+    (look.is_markdown ≡ false) × ((is_blank field ≡ false) ⊎ (field ++ spaces after ≡ []))
+    ⊎ (look.is_markdown ≡ true) × (after ≡ 0)
     × (list_any may_be_escaped (chars field) ≡ false)
 
 -- ---- drawings

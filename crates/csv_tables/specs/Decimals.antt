@@ -4,7 +4,7 @@ use Rattle.std.specs.Prelude.{ℕ, Bool, ◌&&◌, List, ◌++◌, Option, Some,
 use Rattle.std.specs.List.{list_all, list_any}
 use Rattle.comfy_parts.specs.Text.{Text, is_printable_ascii, spaces}
 use Rattle.csv_records.specs.Cleaning.{visible_of}
-use Rattle.csv_records.specs.Decimals.{is_plain, marks_of, points_for, spaces_behind}
+use Rattle.csv_records.specs.Decimals.{is_plain, marks_of, points_for, trailing_spaces}
 use Rattle.csv_records.specs.declared.decimals.ColumnMarks.{ColumnMarks}
 use Rattle.csv_records.specs.declared.decimals.Points.{Points}
 use Rattle.csv_tables.specs.declared.options.ColumnPlan.{ColumnPlan}
@@ -16,7 +16,7 @@ use Rattle.csv_tables.specs.declared.options.ColumnPlan.{ColumnPlan}
 abbrev pub longest_kept : ℕ
 longest_kept = 25
 
--- true for at most that many characters of printable ASCII
+-- true for at most `longest_kept` characters of printable ASCII
 abbrev pub is_narrow : Text → Bool
 is_narrow field = nat_le (length field) longest_kept && is_printable_ascii field
 
@@ -39,4 +39,4 @@ has_points columns = list_any (λ (column : ColumnPlan). is_some column.points) 
 abbrev pub spaced : Bool → Option Points → Text → Text
 spaced keeps_sequences None field = field
 spaced keeps_sequences (Some points) field =
-    field ++ spaces (spaces_behind points (visible_of keeps_sequences field))
+    field ++ spaces (trailing_spaces points (visible_of keeps_sequences field))

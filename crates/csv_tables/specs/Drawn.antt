@@ -62,7 +62,7 @@ abbrev pub column_count : Selection → List (List Text) → ℕ
 column_count selection records =
     count_of (names_or_none selection records) (drawn_rows selection records)
 
--- how many are drawn if none is chosen
+-- the number of columns that are drawn if the caller chooses no columns
 abbrev pub filled_columns : Selection → List (List Text) → ℕ
 filled_columns selection records =
     filled_count (names_or_none selection records) (drawn_rows selection records)
@@ -150,8 +150,8 @@ abbrev pub pairs_table : Look → SelectedValue → TableValue
 pairs_table look content =
     with_rows (flat_map (pairs_in look content) content.rows) (empty_table look)
 
--- true for each column that holds numbers and dates alone, as the column of numbers does; false for
--- all without rows
+-- true for each column that holds numbers and dates alone, as the column of record numbers does. If
+-- there are no rows, false for all columns.
 abbrev pub nowrap_in : SelectedValue → List Bool
 nowrap_in content =
     (if content.is_numbered then not (length content.rows == 0) ∷ [] else [])
@@ -210,8 +210,8 @@ HasTallRow table is_tall =
     × (is_tall ≡ list_any (λ height. nat_lt 1 height)
     (map (row_height table (infos_of table widths)) table.rows))
 
--- `has` is true if lines between rows are drawn: always, never, or if a row of the table without
--- them has more than one line
+-- `has` is true if lines between rows are drawn. For `Styled` they always are, and for `Never`
+-- never. For `Needed` they are if a row of the table without these lines has more than one line.
 abbrev pub HasSeparators : RowSeparators → TableValue → Bool → Type 0
 HasSeparators Styled condensed has = has ≡ true
 HasSeparators Never condensed has = has ≡ false
@@ -227,7 +227,8 @@ separators_in true Never = Never
 
 -- ---- expanded records
 
--- true if records are expanded: always, never, or if there is no room for the table of rows
+-- true if records are expanded: for `Always` always, for `Never` never, and for `Auto` if there is
+-- no room for the table of rows
 abbrev pub is_expanded_in : Expansion → Bool → Bool
 is_expanded_in Always has_room = true
 is_expanded_in NeverExpanded has_room = false
@@ -325,7 +326,7 @@ markdown_look look =
       is_markdown = true;
     }
 
--- the same records with a header, with blank cells if no record is one
+-- the same records with a header; without fields if no record is the header
 abbrev pub markdown_content : SelectedValue → SelectedValue
 markdown_content content = record content { names = Some (unwrap_or content.names []) }
 

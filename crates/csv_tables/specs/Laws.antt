@@ -16,7 +16,7 @@ use Rattle.csv_tables.specs.Cells.{field_text, text_in}
 use Rattle.csv_tables.specs.Fields.{field_or_blank}
 use Rattle.csv_tables.specs.declared.options.ColumnPlan.{ColumnPlan}
 use Rattle.csv_records.specs.Cleaning.{visible_of}
-use Rattle.csv_records.specs.Decimals.{byte_of, digits_in, fraction_len, points_of, spaces_behind}
+use Rattle.csv_records.specs.Decimals.{byte_of, digits_in, fraction_len, points_of, trailing_spaces}
 use Rattle.csv_records.specs.Number.{halves, is_neutral}
 use Rattle.csv_records.specs.declared.decimals.Points.{Points}
 use Rattle.csv_tables.specs.Controls.{IsHarmlessStyle}
@@ -28,21 +28,22 @@ use Rattle.csv_tables.specs.declared.options.Layout.{Layout}
 -- ---- decimal points
 
 -- `drawn` is a text with spaces after it, or without
-abbrev pub HasSpacesBehind : Text → Text → Type 0
-HasSpacesBehind text drawn = (n : ℕ) × (drawn ≡ text ++ spaces n)
+abbrev pub HasTrailingSpaces : Text → Text → Type 0
+HasTrailingSpaces text drawn = (n : ℕ) × (drawn ≡ text ++ spaces n)
 
 -- a column shows the field of a record unchanged, except for spaces after it
 abbrev pub SpacesAloneAreAdded : Look → Bool → ColumnPlan → List Text → Type 0
 SpacesAloneAreAdded look is_aligned column fields =
-    HasSpacesBehind (field_or_blank fields column.position) (text_in look is_aligned column fields)
+    HasTrailingSpaces (field_or_blank fields column.position)
+    (text_in look is_aligned column fields)
 
 -- In a column with a decimal mark, the fraction of each field and the spaces after it are together
 -- as long as the longest fraction. Neutral fields are exempt.
-abbrev pub MarksStandBelow : List Text → Type 0
-MarksStandBelow fields =
+abbrev pub MarksAreLinedUp : List Text → Type 0
+MarksAreLinedUp fields =
     (points : Points) → points_of fields ≡ Some points
     → All (λ field. (is_neutral field ≡ true)
-    ⊎ (fraction_len (halves (byte_of points.mark) (digits_in field)) + spaces_behind points field
+    ⊎ (fraction_len (halves (byte_of points.mark) (digits_in field)) + trailing_spaces points field
     ≡ points.longest)) fields
 
 -- ---- lines

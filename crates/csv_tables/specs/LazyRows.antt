@@ -27,7 +27,8 @@ names_width table rows count =
     greatest (map (λ column. cell_content_width (measured_cell table (name_cell rows column)))
     (filter (λ (column : ColumnPlan). nat_lt column.position count) rows.selected.columns))
 
--- the cells of an expanded record's rows, a name and a field for each of the first columns
+-- `cells` are the cells of an expanded record's rows: a name and a field for each of the first
+-- columns
 pub record AreNamed (rows : RecordRows) (cells : List CellValue) : Type 0 where
   pub columns : ℕ
   pub count : length cells ≡ 2 * columns

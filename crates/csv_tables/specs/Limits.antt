@@ -53,7 +53,7 @@ padded (own ∷ limits) [] = []
 padded (own ∷ limits) (column ∷ columns) =
     record column { padding = own.padding } ∷ padded limits columns
 
--- the columns, of which the one at a place has this padding
+-- the columns, with this padding for the column at a place
 abbrev pub padded_at : ℕ → ℕ × ℕ → List ColumnValue → List ColumnValue
 padded_at i padding [] = []
 padded_at zero padding (column ∷ columns) = record column { padding = padding } ∷ columns
@@ -108,8 +108,8 @@ abbrev pub given_with : List ColumnLimits → ℕ → Wanted → TableValue → 
 given_with limits width wanted table =
     by_columns (reserved_width (level_within limits width wanted table) wanted table) table
 
--- the same for the most words that fit, or nothing without room; without a width, the content
--- widths of the columns
+-- The content widths that columns get beforehand, if as many words as possible stay whole. None if
+-- the width has no room. Without a width, these are the content widths of the columns.
 abbrev pub given_within : List ColumnLimits → Option ℕ → Wanted → TableValue → List ℕ
 given_within limits None wanted table = max_content_widths table
 given_within limits (Some width) wanted table =
@@ -151,7 +151,8 @@ abbrev pub with_limits : List ColumnLimits → List ℕ → TableValue → Table
 with_limits limits given table =
     record table { columns = constrained (limits_for limits given) table.columns }
 
--- the same for columns that are given nothing; without limits no column is constrained
+-- a table with the constraints of columns that are given no content width; without limits no column
+-- is constrained
 abbrev pub with_own_limits : List ColumnLimits → TableValue → TableValue
 with_own_limits [] table = table
 with_own_limits (own ∷ limits) table = with_limits (own ∷ limits) [] table
@@ -175,7 +176,7 @@ holds_points limits table i =
     not (limits_at limits i).has_points
     || is_within (limits_at limits i).greatest (column_content_width table i)
 
--- true if this holds for each column
+-- true if `holds_points` is true for each column
 abbrev pub hold_points : List ColumnLimits → TableValue → Bool
 hold_points limits table = list_all (holds_points limits table) (range_with_len 0 (length limits))
 
@@ -191,7 +192,7 @@ abbrev pub reached : TableValue → ℕ → ColumnLimits → ColumnLimits
 reached table i limits =
     record limits { greatest = option_map (reached_greatest table i limits) limits.greatest }
 
--- these limits for all columns
+-- the limits of all columns, each with such a greatest width
 abbrev pub reached_limits : TableValue → List ColumnLimits → List ColumnLimits
 reached_limits table limits =
     map (λ (i : ℕ). reached table i (limits_at limits i)) (range_with_len 0 (length limits))
@@ -202,8 +203,8 @@ limited_by limits width wanted table =
     with_widths (reached_limits (with_paddings limits table) limits) width wanted
     (with_paddings limits table)
 
--- true if there is room for such a table: for the spaces that align decimal points, and for its
--- width
+-- true if there is room for a table of rows with these limits: for the spaces that align decimal
+-- points, and for its width
 abbrev pub has_room_in : List ColumnLimits → Option ℕ → Bool → Wanted → TableValue → Bool
 has_room_in limits width is_aligned wanted table =
     (hold_points limits (with_paddings limits table) || not is_aligned)

@@ -19,7 +19,7 @@ abbrev pub is_in_word : Option ℕ → Bool
 is_in_word None = false
 is_in_word (Some c) = is_alphabetic c || is_numeric c
 
--- true if this character is there
+-- true if `own` is this character
 abbrev pub is_character : ℕ → Option ℕ → Bool
 is_character c None = false
 is_character c (Some own) = own == c
@@ -40,7 +40,7 @@ begins_markup before c rest =
 abbrev pub is_space : ℕ → Bool
 is_space c = (c == 0x20) || (c == 0x0A)
 
--- true if no word goes on here
+-- true if no word goes on after this character: it is a space or a line feed, or there is none
 abbrev pub ends_word : Option ℕ → Bool
 ends_word None = true
 ends_word (Some c) = is_space c
@@ -96,8 +96,8 @@ abbrev pub is_right : Option CellAlignment → Bool
 is_right (Some Right) = true
 is_right _ = false
 
--- the part of the rule for a column of this width: a dash for each terminal column and padding, or
--- a colon for the last one if the column is right-aligned, and then a bar
+-- The part of the rule for a column of this width. It has a dash for each terminal column and
+-- padding, and then a bar. If the column is right-aligned, its last dash is a colon.
 abbrev pub rule_part : Option CellAlignment × ℕ → Text
 rule_part p = repeat (p.1 + 1) (codes "-") ++ (if is_right p.0 then codes ":|" else codes "-|")
 

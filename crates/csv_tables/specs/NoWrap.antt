@@ -37,7 +37,7 @@ longest_stamp = 35
 abbrev pub is_of_stamps : ℕ → Bool
 is_of_stamps c = is_of_dates c || list_any (λ letter. letter == c) (codes "UCAPM")
 
--- true for a time stamp: such characters alone, with a colon
+-- true for a time stamp: characters of time stamps alone, with a colon
 abbrev pub is_stamp : Text → Bool
 is_stamp field =
     nat_le (length field) longest_stamp
@@ -47,12 +47,13 @@ is_stamp field =
 abbrev pub is_nowrap : Text → Bool
 is_nowrap field = is_short_value field || is_stamp field
 
--- the columns that hold such fields alone, and the words that the other columns keep whole
+-- the columns that hold fields alone that aren't broken, and the words that the other columns keep
+-- whole
 pub record Wanted : Type 0 where
   pub nowrap : List Bool
   pub words : Words
 
--- the same with other words
+-- these wanted columns, with other words that are kept whole
 abbrev pub with_words : Words → Wanted → Wanted
 with_words words wanted = record wanted { words = words }
 
@@ -79,7 +80,7 @@ longest_word = 20
 abbrev pub clamped_word : ℕ → ℕ
 clamped_word width = if nat_lt least_level width then min longest_word width else 0
 
--- this width for the widest word of a name
+-- the width of the widest word of a name, as `clamped_word` limits it
 abbrev pub wide_word : TableValue → Option CellValue → ℕ
 wide_word table None = 0
 wide_word table (Some name) =
@@ -108,12 +109,13 @@ abbrev pub cell_need : Bool → CellValue → ℕ
 cell_need true cell = cell_content_width cell
 cell_need false cell = cell_word_width cell
 
--- the greatest such width of the fields of the column at a position, as they are drawn
+-- the greatest width that a field of the column at a position needs (`cell_need`), as fields are
+-- drawn
 abbrev pub fields_need : Bool → TableValue → ℕ → ℕ
 fields_need is_nowrap table i =
     greatest (map (cell_need is_nowrap) (column_cells (without_header table) i))
 
--- the width of the widest word of a field that is kept whole
+-- the greatest width of a word of a field that is kept whole
 abbrev pub longest_whole : ℕ
 longest_whole = 40
 
@@ -152,7 +154,7 @@ min_width wanted table i =
 abbrev pub shared_content : ℕ → ℕ → ℕ → ℕ
 shared_content level kept content = max 1 (max kept (min level content))
 
--- this width of the column at a position
+-- the content width of the column at a position, if columns share a width up to a level
 abbrev pub width_at_level : ℕ → Wanted → TableValue → ℕ → ℕ
 width_at_level level wanted table i =
     shared_content level (min_width wanted table i) (column_content_width table i)
@@ -227,11 +229,12 @@ abbrev pub given_to : ℕ → Wanted → TableValue → List ℕ
 given_to width wanted table =
     by_columns (reserved_width (fair_level width wanted table) wanted table) table
 
--- the same for the most words that fit
+-- the content widths that columns get beforehand, if as many words as possible stay whole
 abbrev pub given_in : ℕ → Wanted → TableValue → List ℕ
 given_in width wanted table = given_to width (most_wanted width wanted table) table
 
--- a table with these lower boundaries, if the width has room; otherwise the table stays as it is
+-- a table with lower boundaries that keep words and fields whole, if the width has room; otherwise
+-- the table stays as it is
 abbrev pub with_min_widths : Option ℕ → Wanted → TableValue → TableValue
 with_min_widths None wanted table = table
 with_min_widths (Some width) wanted table =
@@ -262,11 +265,13 @@ abbrev pub nowrap_width : ℕ → Text → ℕ
 nowrap_width room line =
     if is_nowrap line && nat_le (measure line) room then measure line else 0
 
--- the greatest such width of a cell's text lines
+-- the greatest width of a cell's text lines that are numbers or dates and have room; 0 if there are
+-- none
 abbrev pub cell_nowrap_width : ℕ → CellValue → ℕ
 cell_nowrap_width room cell = greatest (map (nowrap_width room) cell.text_lines)
 
--- the greatest such width of the fields, which are in the second column
+-- the greatest width of a number or date that has room among the fields, which are in the second
+-- column
 abbrev pub field_width : ℕ → TableValue → ℕ
 field_width room table = greatest (map (cell_nowrap_width room) (column_cells table 1))
 

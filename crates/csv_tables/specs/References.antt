@@ -5,13 +5,13 @@ use Rattle.std.specs.Char.{is_ascii_alphabetic, is_ascii_alphanumeric, is_ascii_
 use Rattle.csv_tables.specs.declared.references.ReferenceKind.{ReferenceKind}
 use Rattle.csv_tables.specs.declared.references.ReferenceKind.TheVariants.{Decimal, Hexadecimal, Name}
 
--- true for a character in a name or a number
+-- true for a character in a name or a number of this kind
 abbrev pub is_of_kind : ReferenceKind → ℕ → Bool
 is_of_kind Name c = is_ascii_alphanumeric c
 is_of_kind Decimal c = is_ascii_digit c
 is_of_kind Hexadecimal c = is_ascii_hexdigit c
 
--- true for a character at the start of a name or a number
+-- true for a character at the start of a name or a number of this kind
 abbrev pub begins_kind : ReferenceKind → ℕ → Bool
 begins_kind Name c = is_ascii_alphabetic c
 begins_kind Decimal c = is_ascii_digit c

@@ -28,7 +28,7 @@ pub record SettingsValue : Type 0 where
   pub columns : List ColumnSettings
   pub rows : List RowSettingsValue
 
--- a table without settings
+-- the settings of a table for which nothing is set
 abbrev pub no_settings : SettingsValue
 no_settings = record { columns = []; rows = [] }
 

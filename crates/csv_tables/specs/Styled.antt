@@ -17,7 +17,7 @@ use Rattle.csv_tables.specs.declared.settings.ColumnSettings.{ColumnSettings}
 use Rattle.csv_tables.specs.declared.options.Layout.{Layout}
 use Rattle.csv_tables.specs.declared.options.Look.{Look}
 
--- a column with its alignment; a centred column has no aligned decimal points
+-- a column, centred if its settings centre it; a centred column has no aligned decimal points
 abbrev pub centered : List ColumnSettings → ColumnPlan → ColumnPlan
 centered settings column =
     if (settings_at settings column.position).is_centered
@@ -117,7 +117,7 @@ is_expanded_by settings look content =
     ((length content.rows == 0) || has_room_by settings look content
     (is_aligned_by settings look content))
 
--- `text` is the text of such a table, with lines between rows or without
+-- `text` is the text of a table with settings, with lines between rows or without
 pub record RendersStyledTable (settings : SettingsValue) (is_expanded : Bool) (look : Look)
     (content : SelectedValue) (text : Text) : Type 0 where
   pub has_separators : Bool

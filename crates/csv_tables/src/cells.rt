@@ -1,4 +1,6 @@
-//! Cells of texts that aren't cleaned yet, and the header.
+//! Makes the cells of fields and names, and the header. A text that is drawn as it is may be
+//! *lent*: its cell refers to the text without a copy. Any other text is cleaned first. The only
+//! error of the functions is that memory runs out.
 
 ghost use Rattle.std.specs.Prelude.{◌≡◌, ◌++◌, ◌∷◌, [], IfOk, IfSome, None, OnOk, Some, chars, decimal, false, if◌then◌else◌, map, option_map, string_bytes, true};
 ghost use Rattle.std.specs.Cow.{cow_str_bytes};
@@ -35,8 +37,8 @@ const BOLD: &TextStyle<'static> = &TextStyle {
     attributes: &[Attribute::Bold],
 };
 
-/// The cell of a text that isn't cleaned yet, followed by `after` spaces. The text is lent if it is
-/// drawn as it is; else a cell is made.
+/// The cell of a text that isn't cleaned yet, followed by `after` spaces. The cell borrows the text
+/// if the text is drawn as it is, and otherwise has a cleaned copy.
 #[inline(always)]
 pub(crate) fn row_cell<'r>(
     alloc: Global,
@@ -55,8 +57,8 @@ pub(crate) fn row_cell<'r>(
     other_cell(alloc, text, after, alignment, is_bold, look)
 }
 
-/// The cell of a field in its column. If `is_aligned`, spaces after the field line up its decimal
-/// mark.
+/// The cell of a field in its column. If `is_aligned` is true, spaces after the field put its
+/// decimal mark below the other marks of the column.
 #[inline(always)]
 pub(crate) fn field_cell<'r>(
     alloc: Global,
@@ -73,8 +75,8 @@ pub(crate) fn field_cell<'r>(
     row_cell(alloc, field, after, column.alignment, false, look)
 }
 
-/// Appends the cell of a field in its column, as `field_cell` returns it, but with its own settings
-/// if it has any.
+/// Appends the cell of a field in its column, as `field_cell` returns it, but with the settings
+/// `own` unless they are `None`.
 #[inline(always)]
 pub(crate) fn push_field<'r>(
     cells: &mut Vec<RowCell<'r>>,
@@ -97,7 +99,7 @@ pub(crate) fn push_field<'r>(
     }
 }
 
-// Appends the cell of a text with spaces after it, and with settings.
+// Appends the cell of a text, followed by `after` spaces, with the settings `own`.
 #[inline(never)]
 fn push_dressed<'r>(
     cells: &mut Vec<RowCell<'r>>,
@@ -115,8 +117,8 @@ fn push_dressed<'r>(
     Ok(())
 }
 
-// The cell of a text with spaces after it, and with settings. A text may be lent if they have no
-// colour and no attribute.
+// The cell of a text, followed by `after` spaces, with the settings `own`. The text may be lent if
+// the settings have no colour and no attribute.
 #[inline(never)]
 fn dressed_cell<'r>(
     alloc: Global,
@@ -136,8 +138,8 @@ fn dressed_cell<'r>(
     Ok(RowCell::Made(Box::new(alloc, cell)?))
 }
 
-/// Appends the cell of a text that isn't cleaned yet, with spaces after it, as `row_cell` returns
-/// it.
+/// Appends the cell of a text that isn't cleaned yet, followed by `after` spaces, as `row_cell`
+/// returns it.
 #[inline(always)]
 pub(crate) fn push_text<'r>(
     cells: &mut Vec<RowCell<'r>>,
@@ -158,7 +160,8 @@ pub(crate) fn push_text<'r>(
     push_other(cells, alloc, text, after, alignment, is_bold, look)
 }
 
-/// Appends the cell of the name of a column, or of its number if it has none.
+/// Appends the cell of the name of the column at a position, or of the column's number, counted
+/// from 1, if it has no name.
 #[inline(always)]
 pub(crate) fn push_name<'r>(
     cells: &mut Vec<RowCell<'r>>,
@@ -226,7 +229,8 @@ pub(crate) fn number_cell<'r>(alloc: Global, number: u128, look: &Look) -> Resul
     boxed_cell(alloc, text.as_str(), 0, right, false, look)
 }
 
-/// The cell of the name of a column, or of its number if it has none.
+/// The cell of the name of the column at a position, or of the column's number, counted from 1, if
+/// it has no name.
 pub(crate) fn name_cell<'r>(
     alloc: Global,
     name: Option<&'r str>,
@@ -301,8 +305,9 @@ fn made_cell(
     Ok(cell)
 }
 
-/// The row of the header: the name of the column of numbers if rows are numbered, and the names of
-/// the other columns with their settings. The only error is `OutOfMemory`.
+/// The row of the header: the names of `columns`, with their settings. If `is_numbered` is true,
+/// the name of the column of record numbers comes first: `#`, or an empty text if the header has no
+/// fields. The only error is `OutOfMemory`.
 pub fn header_of(
     alloc: Global,
     is_numbered: bool,
@@ -380,7 +385,7 @@ fn dressed_if(cell: Cell, own: Option<&CellSettings>) -> Result<Cell>
     }
 }
 
-// The name of the column of numbers: `#`, or an empty name if the header has no fields.
+// The name of the column of record numbers: `#`, or an empty name if the header has no fields.
 fn number_name(names: &Record<'_>) -> &'static str
     ensures { result.now ≡ number_name names.now }
 {
@@ -408,8 +413,8 @@ fn cleaned_cell(
     })
 }
 
-// The text of a field's cell: cleaned, and escaped in Markdown. Elsewhere a blank text becomes
-// empty.
+// The text of a field's cell: cleaned, and escaped in Markdown. In other tables a blank text
+// becomes empty.
 fn field_text(alloc: Global, field: &str, look: &Look) -> Result<String>
     ensures { IfOk result (λ text. string_bytes text ≡ field_text look.now field.now) }
 {
@@ -434,8 +439,8 @@ fn style_of(is_bold: bool) -> Option<&'static TextStyle<'static>>
     if is_bold { Some(BOLD) } else { None }
 }
 
-// The cell that lends a text, followed by `after` spaces, if it is drawn as it is on one line.
-// Printable ASCII is tried first, because most texts are.
+// The cell that a text is lent to, followed by `after` spaces, if the text is drawn as it is on one
+// line. Printable ASCII is tried first, because most texts consist of it.
 #[inline(always)]
 fn lent_cell<'r>(
     text: &'r str,
@@ -461,7 +466,7 @@ fn lent_cell<'r>(
     Some(cell)
 }
 
-// The cell that lends a text. `None` unless the text is one line in which no character is replaced.
+// The cell that a text is lent to. `None` unless the text is one line that is drawn as it is.
 #[inline(never)]
 fn clean_cell<'r>(
     text: &'r str,
@@ -479,8 +484,8 @@ fn clean_cell<'r>(
     Some(cell)
 }
 
-// The cell that lends a text of several lines. `None` if spaces follow the text, if it is blank or
-// for Markdown, or if one of its lines isn't drawn as it is.
+// The cell that a text of several lines is lent to. `None` if spaces follow the text, if it is
+// blank or for Markdown, or if one of its lines isn't drawn as it is.
 fn lines_cell<'r>(
     text: &'r str,
     after: usize,

@@ -16,8 +16,9 @@ use csv_records::{ColumnMarks, Points, Record, Rows};
 use std::alloc::{AllocError, Global};
 use std::borrow::CowStr;
 
-/// The plan of each column that is drawn. It follows from the fields of `rows`, and from the sides
-/// that `columns` sets.
+/// The plan of each drawn column, in the order of `columns`. It follows from the column's fields in
+/// `rows`, and from the alignment that `columns` sets. If `has_sequences` is true, SGR sequences in
+/// fields don't count. The only error is that memory runs out.
 pub(crate) fn drawn_columns(
     alloc: Global,
     columns: &Columns,
@@ -61,8 +62,8 @@ fn points_at(alignment: Option<CellAlignment>, marks: Option<ColumnMarks>) -> Op
     }
 }
 
-/// The name of the column at a position, or its number, counted from 1, if it has no name. The only
-/// error is that memory runs out.
+/// The name of the column at a position, or the column's number, counted from 1, if it has no name.
+/// The position is counted from 0. The only error is that memory runs out.
 pub fn name_at<'a>(
     alloc: Global,
     names: &Record<'a>,
@@ -90,7 +91,7 @@ pub(crate) fn name_or_number<'a>(
 }
 
 // The alignment of a column: the one that was set for it, else right if its fields are numbers.
-// `None` leaves it to the table.
+// `None` if neither gives an alignment.
 fn alignment_of(
     position: usize,
     right: &[usize],
@@ -110,8 +111,8 @@ fn alignment_of(
     }
 }
 
-/// The visible text of a field: the field without SGR sequences if `has_sequences`, else the whole
-/// field.
+/// The visible text of a field: the field without SGR sequences if `has_sequences` is true, and
+/// otherwise the whole field.
 pub(crate) fn seen_text<'a>(
     alloc: Global,
     field: &'a str,
@@ -126,7 +127,7 @@ pub(crate) fn seen_text<'a>(
     }
 }
 
-// A field without its sequences.
+// A field without its SGR sequences.
 fn without_sequences(alloc: Global, field: &str) -> Result<String, AllocError>
     ensures { IfOk result (λ text. string_bytes text ≡ visible_text field.now) }
 {

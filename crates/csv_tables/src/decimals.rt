@@ -12,18 +12,18 @@ use csv_records::Points;
 use std::alloc::{AllocError, Global};
 use std::borrow::CowStr;
 
-/// The most characters of a field whose decimal mark is lined up, or which isn't broken over lines.
-/// A time stamp that isn't broken may have more.
+/// The greatest number of characters of a field whose decimal mark is put below others, or of a
+/// field that isn't broken over lines. A time stamp that isn't broken over lines may have more.
 pub(crate) const LONGEST_KEPT: usize = 25;
 
-/// Returns true if a field is short and consists of printable ASCII.
+/// Returns true if a field has at most `LONGEST_KEPT` characters, all of them printable ASCII.
 pub(crate) fn is_narrow(field: &str) -> bool
     ensures { result ≡ is_narrow field.now }
 {
     field.len() <= LONGEST_KEPT && is_printable(field.as_bytes())
 }
 
-/// Returns true if one of these columns has a decimal mark.
+/// Returns true if at least one of `columns` has a decimal mark.
 pub(crate) fn has_points(columns: &[ColumnPlan]) -> bool
     ensures { result ≡ has_points columns.now }
 {
@@ -31,7 +31,8 @@ pub(crate) fn has_points(columns: &[ColumnPlan]) -> bool
 }
 
 /// The number of spaces after a field that put its decimal mark below the other marks of its
-/// column. Only the visible text of the field counts. 0 in a column without marks.
+/// column. 0 if `points` is `None`: the column then has no decimal mark. If `has_sequences` is
+/// true, SGR sequences in the field don't count. The only error is that memory runs out.
 #[inline(always)]
 pub(crate) fn spaces_after(
     alloc: Global,
@@ -46,10 +47,11 @@ pub(crate) fn spaces_after(
         return Ok(0);
     };
     let field = seen_text(alloc, field, has_sequences)?;
-    Ok(points.spaces_behind(field.as_str()))
+    Ok(points.trailing_spaces(field.as_str()))
 }
 
-/// A text followed by `count` spaces. It is copied only if there are any.
+/// A text followed by `count` spaces. The text isn't copied if `count` is 0. The only error is that
+/// memory runs out.
 pub(crate) fn with_spaces<'a>(
     alloc: Global,
     text: &'a str,

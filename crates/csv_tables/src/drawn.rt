@@ -1,4 +1,4 @@
-//! The drawing of records, which comes in pieces.
+//! Draws records piece by piece.
 
 ghost use Rattle.std.specs.Prelude.{◌≡◌, ◌==◌, ◌<◌, ◌≤◌, ◌+◌, ◌++◌, ◌^◌, [], IfNone, IfOk, IfSome, None, OnErr, OnOk, Ok, Some, false, length, map, string_bytes, true};
 ghost use Rattle.std.specs.List.{All};
@@ -21,14 +21,14 @@ use std::alloc::{AllocError, Global};
 use std::marker::Model;
 use std::mem;
 
-// The most records of a piece.
+// The greatest number of records in a piece of a drawing.
 const RECORDS: usize = 256;
 
-// The bytes that a piece has room for at first.
+// The number of bytes that a piece has room for at first.
 const ROOM: usize = 32768;
 
-/// The drawing of some records. It is made piece by piece, so that it needs memory for few records
-/// at a time.
+/// The drawing of some records. Each call of `next_piece` (trait `Pieces`) returns the next piece
+/// of the drawing's text. The drawing needs memory for the cells of few records at a time.
 #[derive(Drop)]
 pub struct RecordDrawing {
     // the next piece, which is made before the caller wants it: memory runs out only before a piece
@@ -62,7 +62,8 @@ impl RecordDrawing {
         }
     }
 
-    /// A drawing that begins with the text `beginning`, and has all records of `left` after it.
+    /// A drawing that begins with the text `beginning`. All records of `left` and its note come
+    /// after this text. The only error is `OutOfMemory`.
     pub(crate) fn of_records(beginning: String, left: Remaining) -> Result<RecordDrawing>
         requires { left.place ≡ 0 }
         ensures { IfOk result (λ drawn. drawn
@@ -97,13 +98,13 @@ impl Pieces for RecordDrawing {
     }
 }
 
-/// Records that are drawn one after another, and the note that is written after them.
+/// The part of a drawing that isn't made yet: records, and the note that is written after them.
 #[derive(Drop)]
 pub(crate) struct Remaining {
     pub arranged: ArrangedTable<LazyTable>,
-    // the record that is drawn next
+    // the place of the record that is drawn next, counted from 0
     pub place: usize,
-    // true if the lines above the records are drawn with it
+    // true if the lines above the rows, such as the header, are drawn before this record
     pub is_first: bool,
     pub note: String,
 }
@@ -129,8 +130,8 @@ fn piece_of(rest: Option<Remaining>) -> Result<(Option<String>, Option<Remaining
     Ok((None, None))
 }
 
-// Appends the lines of the next records, and after the last one the note. Returns the rest of the
-// drawing.
+// Appends the lines of the next records, and the note after the last record. Returns the rest of
+// the drawing, or `None` after the last record.
 fn push_next(left: Remaining, text: &mut String) -> Result<Option<Remaining>>
     requires { left.place ≤ length left.arranged.contents.rows.selected.rows }
     ensures text { IfOk result (λ rest. string_bytes text.old ++ rest_of (Some left)
@@ -146,7 +147,7 @@ fn push_next(left: Remaining, text: &mut String) -> Result<Option<Remaining>>
         is_first,
         note,
     } = left;
-    let rows = arranged.contents().rows.selected.rows().rows_behind(place);
+    let rows = arranged.contents().rows.selected.rows().rows_after(place);
     let next = rows.first_rows(RECORDS);
     let count = next.len();
     let is_last = count == rows.len();
@@ -164,7 +165,9 @@ fn push_next(left: Remaining, text: &mut String) -> Result<Option<Remaining>>
     }))
 }
 
-/// Appends the lines of the next records, the first of which is at a place.
+/// Appends the lines of the records `next`. The first of these records is at the place `place`,
+/// counted from 0. In a table of rows, `extent` decides whether the lines above and below all rows
+/// are appended too.
 pub(crate) fn push_records(
     text: &mut String,
     arranged: &ArrangedTable<LazyTable>,

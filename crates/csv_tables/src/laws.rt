@@ -1,38 +1,43 @@
-//! Laws of every drawing. Each function does nothing: its clauses are the law, and a proof of yours
-//! can cite it.
+//! Laws: facts that are proved for every drawing. Each function does nothing. Its clauses are the
+//! law, and a proof of yours can cite them.
 
 ghost use Rattle.std.specs.Prelude.{Bool, List, Option, ℕ};
 ghost use Rattle.comfy_parts.specs.Text.{Text};
-ghost use Rattle.csv_tables.specs.Laws.{FittingOutputIsStraight, MarkdownOutputIsStraight, MarksStandBelow, NarrowOutputIsStraight, SpacesAloneAreAdded, WholeOutputIsStraight};
+ghost use Rattle.csv_tables.specs.Laws.{FittingOutputIsStraight, MarkdownOutputIsStraight, MarksAreLinedUp, NarrowOutputIsStraight, SpacesAloneAreAdded, WholeOutputIsStraight};
 ghost use Rattle.csv_tables.specs.declared.options.Look.{Look};
 ghost use Rattle.csv_tables.specs.declared.options.Layout.{Layout};
 ghost use Rattle.csv_tables.specs.declared.options.ColumnPlan.{ColumnPlan};
 
-/// Decimal marks are below each other, by spaces alone. A column shows the fields of records with
-/// nothing but spaces after them. In a column with a decimal mark, the fraction of each field has
-/// the same length with its spaces, so all marks are equally far from the right side.
-pub fn decimal_marks_stand_below_each_other()
+/// Spaces after fields put decimal marks below each other, and fields aren't changed otherwise. In
+/// a column with a decimal mark, the fraction of each field and the spaces after it have the same
+/// length together. So all marks are equally far from the right side of the column. Neutral fields,
+/// such as `n/a`, are exempt.
+pub fn decimal_marks_are_lined_up()
     ensures spaces { (look : Look) (is_aligned : Bool) (column : ColumnPlan)
         (fields : List Text)
         → SpacesAloneAreAdded look is_aligned column fields }
-    ensures marks { (fields : List Text) → MarksStandBelow fields }
+    ensures marks { (fields : List Text) → MarksAreLinedUp fields }
 {}
 
-/// All lines of an output take the same number of terminal columns. Without a bold header these are
-/// the lines as they are written. With one they are the lines without their sequences, if there is
-/// no other control character.
+/// All lines of an output take the same number of terminal columns. If the header isn't bold, this
+/// holds for the lines as they are written. It also holds for the lines without their SGR
+/// sequences, if the style has no control characters and no characters that change the direction of
+/// text.
 ///
-/// It holds in each of these cases, if each character of the style adds one column and none is a
-/// line feed, and sequences in fields aren't kept:
+/// The law requires that each character of the style adds one terminal column, and that none is a
+/// line feed. It also requires that the look's `has_sequences` is false. The law then holds in each
+/// of these cases:
 ///
-/// - Without a width, for texts of every script up to 65535 columns. If rows are cut, U+FE01 is
-///   nowhere directly next to U+FE0E or U+FE0F.
-/// - Under every width, if no character takes more than one column.
-/// - Under every width, if each character of each text fits its column.
+/// - No width is set, and each line of a text takes at most 65535 terminal columns, in any script.
+///   If rows are cut to a greatest height, U+FE01 is nowhere directly next to U+FE0E or U+FE0F.
+/// - No character takes more than one terminal column, whatever the width is.
+/// - Each character of each text fits its column, whatever the width is.
 ///
-/// The tables of expanded records have the same width. The lines that number them, and the line on
-/// further records, aren't among these lines. An output for Markdown of texts up to 65535 columns
-/// is straight, whatever else its look has, and its line below the header is as wide as the others.
+/// The tables of all expanded records have the same width. The line above each expanded record,
+/// such as `record 1 of 2`, and the note on records that aren't drawn don't count as lines here.
+///
+/// All lines of an output for Markdown, also the line below the header, are equally wide if each
+/// line of a text takes at most 65535 terminal columns. The rest of the look doesn't matter.
 pub fn outputs_are_straight()
     ensures whole { (visible : Bool)
         (counted : Option ℕ) (layout : Layout) (records : List (List Text)) (output : Text)

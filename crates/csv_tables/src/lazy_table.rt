@@ -16,7 +16,7 @@ use std::marker::Model;
 /// The table of records, whose rows are made only when they are drawn.
 #[derive(Drop)]
 pub(crate) struct LazyTable {
-    // its header and its columns, without rows
+    // the header and the columns of the table, without its rows
     pub table: Table,
     pub rows: RecordRows,
     // the content width of each column
@@ -48,7 +48,8 @@ impl Model for LazyTable {
 }
 
 impl LazyTable {
-    /// The table of these rows, with all lines of the style.
+    /// Makes the table of `rows`, and measures the content of each column. The style keeps its
+    /// lines between rows. The only error is `OutOfMemory`.
     pub fn new(rows: RecordRows) -> Result<LazyTable>
         ensures table { IfOk result (λ contents. contents.table ≡ table_by rows) }
         ensures rows { IfOk result (λ contents. contents.rows ≡ rows) }
@@ -64,7 +65,7 @@ impl LazyTable {
         })
     }
 
-    /// Returns the rows, and drops the table.
+    /// Returns the rows from which the table was made, and drops the table.
     pub fn into_rows(self) -> RecordRows
         ensures { result ≡ self.rows }
     {
@@ -72,8 +73,8 @@ impl LazyTable {
         rows
     }
 
-    /// Returns true if each row is known to have at most one line in columns of these widths. If
-    /// this returns false, each row may still have one line.
+    /// Returns true only if each row has at most one line in columns of the widths in `infos`. If
+    /// the result is false, each row may still have at most one line.
     pub fn is_flat_within(&self, infos: &[ColumnDisplayInfo]) -> bool
         ensures { result ≡ true → list_any (nat_lt 1) (map (row_height self.now.table infos.now)
             self.now.table.rows) ≡ false }
@@ -81,7 +82,8 @@ impl LazyTable {
         self.is_flat && are_within(self.widths.as_slice(), infos)
     }
 
-    /// The content width of each column, in list order.
+    /// The content width of each column, in terminal columns, in the order of the columns. It is
+    /// the width of the widest text line in the column, at most 65535.
     pub fn widths(&self) -> &[u16]
         ensures { result.now ≡ max_content_widths self.now.table }
     {

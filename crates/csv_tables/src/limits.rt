@@ -1,4 +1,5 @@
-//! Paddings, and least and greatest widths, that a caller sets for columns.
+//! Paddings, and least and greatest widths, that a caller sets for columns. The only error of the
+//! functions is that memory runs out.
 
 ghost use Rattle.std.specs.Prelude.{◌≡◌, ◌≤◌, ◌||◌, All, IfOk, [], length, map, max, not, option_map, slice_index};
 ghost use Rattle.std.specs.List.{range_with_len};
@@ -15,7 +16,8 @@ use comfy_table::for_records::TableSource;
 use comfy_table::{Column, ColumnConstraint, Result, Table, Width};
 use std::alloc::{AllocError, Global};
 
-/// The widths that the texts of a column may have, in terminal columns.
+/// The paddings of a column, and the content widths that it may have. All of them are counted in
+/// terminal columns.
 #[derive(Clone, Copy)]
 pub(crate) struct ColumnLimits {
     // the terminal columns that stay free to the left and to the right
@@ -24,11 +26,12 @@ pub(crate) struct ColumnLimits {
     pub least: u16,
     // at least 1, and at least the least width
     pub greatest: Option<u16>,
-    // true if its fields have a decimal mark that may be lined up
+    // true if the fields of the column have a decimal mark that may be lined up
     pub has_points: bool,
 }
 
-/// The limits of each column of the table of rows. The list is empty if no column has settings.
+/// The limits of each column of the table of rows, in the order of the columns. The list is empty
+/// if `settings` is empty.
 pub(crate) fn limits_in(
     settings: &[ColumnSettings],
     selected: &SelectedRecords,
@@ -49,7 +52,8 @@ pub(crate) fn limits_in(
     Ok(limits)
 }
 
-/// The settings of the column at a position.
+/// The settings of the column at a position, or `ColumnSettings::none` if the list has no settings
+/// for this column.
 pub(crate) fn settings_at(settings: &[ColumnSettings], position: usize) -> ColumnSettings
     ensures { result ≡ settings_at settings.now position }
 {
@@ -96,7 +100,7 @@ fn limits_at(limits: &[ColumnLimits], at: usize) -> ColumnLimits
     }
 }
 
-/// Gives the columns of a table their paddings.
+/// Sets the paddings of the columns that have limits.
 pub(crate) fn pad_contents(contents: &mut LazyTable, limits: &[ColumnLimits])
     ensures { contents.new ≡ record contents.old {
       table = with_paddings limits.now contents.old.table;
@@ -130,8 +134,8 @@ fn set_padding(column: &mut Column, padding: (u16, u16))
     column.set_padding(padding);
 }
 
-/// The width of the column at a place for a content of this width, in terminal columns: within its
-/// limits, and with its paddings.
+/// The width that the column at a place takes for a content width, in terminal columns: the content
+/// width within the column's limits, and both paddings.
 pub(crate) fn taken_at(limits: &[ColumnLimits], at: usize, content: u16) -> usize
     ensures { result ≡ taken (limits_at limits.now at) content }
 {
@@ -156,8 +160,8 @@ fn bounded(limits: ColumnLimits, content: u16) -> u16
     }
 }
 
-/// The constraints that give columns at least these content widths, within their limits. Without
-/// limits, each column has a padding of one terminal column on both sides.
+/// The constraints that give each column at least its content width in `given`, within its limits.
+/// If `limits` is empty, each column has a padding of one terminal column on both sides.
 pub(crate) fn limits_for(
     alloc: Global,
     limits: &[ColumnLimits],
@@ -250,8 +254,8 @@ fn between(lower: u16, upper: u16) -> ColumnConstraint
     }
 }
 
-/// Returns true if no text is wrapped whose decimal point may be lined up: each column of such
-/// texts has room for its content.
+/// Returns true if no text of a column with a decimal mark is wrapped: the greatest width of each
+/// such column has room for the column's content.
 pub(crate) fn hold_points(limits: &[ColumnLimits], contents: &LazyTable) -> Result<bool>
     ensures { IfOk result (λ hold. hold ≡ hold_points limits.now contents.now.table) }
 {
@@ -262,7 +266,8 @@ pub(crate) fn hold_points(limits: &[ColumnLimits], contents: &LazyTable) -> Resu
     Ok(hold)
 }
 
-// Returns true if no such text is wrapped in a column of this content width.
+// Returns true unless the column has decimal points to line up, and its content is wider than its
+// greatest width.
 fn holds_points(limits: ColumnLimits, content: u16) -> bool
     ensures { result ≡ not limits.has_points || is_within limits.greatest content }
 {
@@ -278,8 +283,9 @@ fn is_within(greatest: Option<u16>, content: u16) -> bool
     }
 }
 
-/// The limits, with each greatest width replaced by the longest line of its column, so that no
-/// column is wider than its lines need. Texts are wrapped at the greatest width for this.
+/// The limits, with each greatest width replaced by the width of the longest line in its column, so
+/// that no column is wider than its lines need. To find these widths, texts are wrapped at the
+/// greatest width.
 pub(crate) fn reached_limits(
     limits: &[ColumnLimits],
     contents: &LazyTable,

@@ -10,13 +10,18 @@ use comfy_parts::style::CellAlignment;
 use csv_records::split_first;
 use std::alloc::{AllocError, Global};
 
-/// A text as it is written in a cell of a Markdown table, so that readers of the table see its
-/// characters. The only error is that memory runs out.
+/// A text as it is written in a cell of a Markdown table, so that a reader of the table sees the
+/// text's characters. The only error is that memory runs out.
 ///
-/// A backslash is added before each character that could begin or end markup: `|`, `\`, `<`, `[`,
-/// `]`; `&` of a character reference; `*`, `` ` ``, `~` and `_` if the same character follows, but
-/// not a `_` directly after a letter or a digit. A word with a backslash gets further ones in `:/`
-/// and between `w` and a point, because a reader that makes links of web addresses would take the
+/// A backslash is added before each character that could begin or end markup:
+///
+/// - `|`, `\`, `<`, `[` and `]`;
+/// - the `&` of a character reference;
+/// - `*`, `` ` ``, `~` and `_`, if the same character follows later in the text. A `_` directly
+///   after a letter or a digit gets none.
+///
+/// A word with one of these backslashes gets more: one before a `:` that `/` follows, and one
+/// before a point after `w`. Otherwise a program that makes links of web addresses would take the
 /// backslashes into the link. A line feed becomes `<br>`.
 pub fn escaped(alloc: Global, text: &str) -> Result<String, AllocError>
     ensures { IfOk result (λ t. string_bytes t ≡ encode_utf8_all (escaped (chars text.now))) }
@@ -25,11 +30,11 @@ pub fn escaped(alloc: Global, text: &str) -> Result<String, AllocError>
     let mut is_marked = false;
     let mut before = None;
     let mut rest = text;
-    while let Some((c, behind)) = split_first(rest) {
+    while let Some((c, after)) = split_first(rest) {
         is_marked = is_marked_at(is_marked, before, rest);
-        push_escaped(&mut cell, c, is_special(is_marked, before, c, behind))?;
+        push_escaped(&mut cell, c, is_special(is_marked, before, c, after))?;
         before = Some(c);
-        rest = behind;
+        rest = after;
     }
     Ok(cell)
 }
@@ -41,9 +46,10 @@ pub(crate) fn may_be_escaped(text: &str) -> bool
     text.chars().any(|c| c == '\n' || is_mark(c) || matches!(c, '*' | '`' | '~' | '_' | '&'))
 }
 
-/// Appends the line below the header, and a line feed: dashes between bars. A right-aligned column
-/// has a colon in place of its last dash. `widths` are the content widths of the columns, in
-/// terminal columns. The only error is that memory runs out.
+/// Appends the line below the header of a Markdown table, and a line feed. The line has dashes
+/// between bars. In a right-aligned column a colon replaces the last dash. `sides` has the
+/// alignment of each column, and `widths` its content width in terminal columns. The only error is
+/// that memory runs out; `text` may then have a part of the line.
 pub fn push_rule(
     text: &mut String,
     sides: &[Option<CellAlignment>],
@@ -59,7 +65,7 @@ pub fn push_rule(
     text.push('\n')
 }
 
-// Appends the part of the line for a column of this alignment and content width.
+// Appends the part of the line below the header for a column of this alignment and content width.
 fn push_rule_segment(
     text: &mut String,
     side: Option<CellAlignment>,
@@ -103,14 +109,15 @@ fn push_escaped(cell: &mut String, c: char, is_special: bool) -> Result<(), Allo
 
 // Returns true if a character needs a backslash: it could begin or end markup, or begin a web
 // address in a word that has such a character.
-fn is_special(is_marked: bool, before: Option<char>, c: char, behind: &str) -> bool
-    ensures { result ≡ is_special is_marked before c (chars behind.now) }
+fn is_special(is_marked: bool, before: Option<char>, c: char, after: &str) -> bool
+    ensures { result ≡ is_special is_marked before c (chars after.now) }
 {
-    begins_markup(before, c, behind) || is_marked && is_in_address(before, c, first(behind))
+    begins_markup(before, c, after) || is_marked && is_in_address(before, c, first(after))
 }
 
 // Returns true if the word around the first character of `text` is marked: a character of it could
-// begin or end markup. `is_marked` is the answer for the character before, in the same word.
+// begin or end markup. `is_marked` is the result for the character before, if that is in the same
+// word.
 fn is_marked_at(is_marked: bool, before: Option<char>, text: &str) -> bool
     ensures { result ≡ is_marked_at is_marked before (chars text.now) }
 {
@@ -128,15 +135,15 @@ fn is_word_marked(before: Option<char>, text: &str) -> bool
 {
     let mut before = before;
     let mut rest = text;
-    while let Some((c, behind)) = split_first(rest) {
+    while let Some((c, after)) = split_first(rest) {
         if is_space(c) {
             return false;
         }
-        if begins_markup(before, c, behind) {
+        if begins_markup(before, c, after) {
             return true;
         }
         before = Some(c);
-        rest = behind;
+        rest = after;
     }
     false
 }
@@ -170,10 +177,10 @@ fn is_in_address(before: Option<char>, c: char, after: Option<char>) -> bool
 
 // Returns true if a character could begin or end markup, by the character before it and the text
 // after it.
-fn begins_markup(before: Option<char>, c: char, behind: &str) -> bool
-    ensures { result ≡ begins_markup before c (chars behind.now) }
+fn begins_markup(before: Option<char>, c: char, after: &str) -> bool
+    ensures { result ≡ begins_markup before c (chars after.now) }
 {
-    is_mark(c) || is_paired(before, c) && holds(behind, c) || c == '&' && begins_reference(behind)
+    is_mark(c) || is_paired(before, c) && holds(after, c) || c == '&' && begins_reference(after)
 }
 
 fn is_mark(c: char) -> bool

@@ -1,4 +1,5 @@
-//! The widths that columns need for their fields: for whole fields, or for the widest word.
+//! The widths that columns need for their fields: for whole fields, or for the widest word. The
+//! only error of the functions is that memory runs out.
 
 ghost use Rattle.std.specs.Prelude.{◌≡◌, IfOk, false, min};
 ghost use Rattle.comfy_table.specs.RowCells.{cell_of};
@@ -17,17 +18,19 @@ use std::alloc::Global;
 // `LONGEST_WORD` terminal columns.
 const LONGEST_WHOLE: u16 = 40;
 
-/// The words that columns of text keep whole.
+/// The words that columns of text don't break over lines, if the width has room for them.
 #[derive(Clone, Copy, Debug, PartialEq, Eq)]
 pub(crate) enum Words {
+    /// No words: each word may be broken.
     Broken,
+    /// The words of the columns' names.
     OfNames,
-    /// Words of names and of fields.
+    /// The words of the columns' names and of their fields.
     OfFields,
 }
 
-/// The words that have to be kept whole if a row has at most `max_height` lines. A width without
-/// room for them has no room for the table of rows.
+/// The words that mustn't be broken if a row has at most `max_height` lines. A width without room
+/// for them has no room for the table of rows.
 pub(crate) fn least_words(max_height: Option<usize>) -> Words
     ensures { result ≡ least_words max_height }
 {
@@ -37,8 +40,8 @@ pub(crate) fn least_words(max_height: Option<usize>) -> Words
     }
 }
 
-/// The content width that the column at a position keeps for the widest word of its name, in
-/// terminal columns; 0 if it keeps none.
+/// The content width that the column at a position needs for the widest word of its name, in
+/// terminal columns. 0 if the column may break each word of its name.
 pub(crate) fn kept_of_name(table: &Table, words: Words, at: usize) -> u16
     ensures { result ≡ kept_of_name words (wide_word table.now (name_in table.now at)) }
 {
@@ -48,7 +51,7 @@ pub(crate) fn kept_of_name(table: &Table, words: Words, at: usize) -> u16
     }
 }
 
-/// The content width that the column at a position keeps for its fields, in terminal columns.
+/// The content width that the column at a position needs for its fields, in terminal columns.
 /// `content` is the width of its whole content.
 pub(crate) fn kept_of_fields(
     contents: &LazyTable,
@@ -103,7 +106,8 @@ fn fields_need(contents: &LazyTable, is_nowrap: bool, at: usize, content: u16) -
     Ok(need.min(usize::from(content)) as u16)
 }
 
-/// The width of a cell if `is_nowrap`, else of its widest word, in terminal columns.
+/// The width of a cell if `is_nowrap` is true, and otherwise of its widest word, in terminal
+/// columns.
 pub(crate) fn cell_need(
     alloc: Global,
     table: &Table,

@@ -1,5 +1,7 @@
-//! Gives columns room for numbers and dates, so that these aren't broken over lines if a width has
-//! room.
+//! Widens columns so that numbers and dates aren't broken over lines, if the width has room for
+//! them. Columns share a width up to a *level*: the greatest content width, in terminal columns, of
+//! a column that doesn't have to keep more. The only error of the functions is that memory runs
+//! out.
 
 ghost use Rattle.std.specs.Prelude.{◌≡◌, ◌==◌, ◌||◌, ◌-◌, Bool, List, ◌≤◌, ◌^◌, All, IfOk, None, OnOk, Some, chars, false, if◌then◌else◌, length, map, max, min, nat_le, nat_lt, option_copied, slice_get, true, unwrap_or};
 ghost use Rattle.std.specs.List.{list_all, list_any, slice_split};
@@ -30,23 +32,23 @@ use comfy_table::{Cell, Column, ColumnConstraint, Result, Table, Width};
 use csv_records::{is_neutral, is_number};
 use std::alloc::{AllocError, Global};
 
-/// The most terminal columns that a column needs for a word of its name.
+/// The greatest number of terminal columns that a column needs for a word of its name.
 pub(crate) const LONGEST_WORD: u16 = 20;
 
-/// The terminal columns of its content that each column needs, whatever its name. A narrower
-/// content is needed whole.
+/// The number of terminal columns that each column needs for its content, whatever its name is. A
+/// column whose content is narrower needs the width of the content.
 pub(crate) const LEAST_LEVEL: u16 = 8;
 
-// The most characters of a time stamp. All of them are ASCII.
+// The greatest number of characters of a time stamp. All of them are ASCII.
 const LONGEST_STAMP: usize = 35;
 
-// The most terminal columns that the names of expanded records need.
+// The greatest number of terminal columns that the names of expanded records need.
 const NEEDED_NAMES: u16 = 4;
 
-/// Gives columns their paddings, their limits, and least widths with which no number or date is
-/// broken over lines. Returns true if the table can be drawn so. It can't if the set width has no
-/// room for the least widths, which are then left out. Nor can it if decimal points are aligned in
-/// a column whose greatest width would wrap its texts.
+/// Sets the paddings and limits of columns, and least widths with which no number or date is broken
+/// over lines. Returns true if there is room for the table. If the set width has no room for the
+/// least widths, none of these widths is set, and the result is false. The result is also false if
+/// decimal points are aligned in a column whose greatest width would wrap its texts.
 pub(crate) fn keep_nowrap(contents: &mut LazyTable) -> Result<bool>
     requires { contents.old.rows.is_expanded ≡ false }
     ensures contents { OnOk result (contents.new ≡ record contents.old {
@@ -69,7 +71,7 @@ pub(crate) fn keep_nowrap(contents: &mut LazyTable) -> Result<bool>
     Ok(hold_points && has_room)
 }
 
-// Gives columns their limits. Their paddings were set before. Returns true if no width is kept, or
+// Sets the limits of columns, whose paddings were set before. Returns true if no width is set, or
 // if the width has room.
 fn keep_limits(contents: &mut LazyTable, limits: &[ColumnLimits]) -> Result<bool>
     requires { contents.old.rows.is_expanded ≡ false }
@@ -110,7 +112,7 @@ fn keep_contents(
     Ok(())
 }
 
-// Gives columns their limits, if they have limits, and reserves no content.
+// Sets the limits of columns, if they have limits, and reserves no content width.
 fn keep_nothing(
     contents: &mut LazyTable,
     limits: &[ColumnLimits],
@@ -186,8 +188,8 @@ fn kept_contents(contents: &LazyTable, nowrap: &[bool], words: Words) -> Result<
     Ok(kept)
 }
 
-// The content widths that columns keep under a width. `least` are the widths that they keep at
-// least, for which the width has room. If all contents have room, `least` is enough. Otherwise
+// The content widths that columns keep in a width. `least` are the widths that they keep at least,
+// and the width has room for these. If all contents have room, the result is `least`. Otherwise
 // words of fields are kept whole if there is room, or else words of names.
 fn most_contents(
     contents: &LazyTable,
@@ -229,8 +231,8 @@ fn fits(contents: &LazyTable, limits: &[ColumnLimits], kept: &[u16], level: u16,
     bounded_width(contents, limits, kept, level) <= usize::from(width)
 }
 
-// The width of the table if each column has its content up to `level`, but at least what it keeps,
-// within its limits. Borders and paddings are included. In terminal columns, at most `usize::MAX`.
+// The width of the table, in terminal columns, if each column has its content up to `level`, but at
+// least what it keeps, within its limits. Borders and paddings are included. At most `usize::MAX`.
 fn bounded_width(contents: &LazyTable, limits: &[ColumnLimits], kept: &[u16], level: u16) -> usize
     ensures { (wanted : Wanted)
         → kept.now ≡ by_columns (min_width wanted contents.now.table) contents.now.table
@@ -299,7 +301,7 @@ fn kept_content(
     Ok(of_name.max(of_fields).min(content))
 }
 
-/// The cell of the header at a position, if there is one.
+/// The cell of the header at a position, or `None` if there is no such cell.
 pub(crate) fn name_in(table: &Table, at: usize) -> Option<&Cell>
     ensures { option_copied result ≡ name_in table.now at }
 {
@@ -380,8 +382,8 @@ fn constrain_columns(table: &mut Table, constraints: Vec<ColumnConstraint>)
     table.set_constraints(constraints);
 }
 
-// The content widths that columns which keep `kept` get before all share the rest of a width up to
-// a level.
+// The content widths that columns which keep `kept` get before all columns share the rest of a
+// width up to a level.
 fn given_contents(
     alloc: Global,
     kept: &[u16],
@@ -400,8 +402,8 @@ fn given_contents(
     Ok(given)
 }
 
-// The content width that a column gets before all share the rest: what it keeps if its fields
-// aren't broken, or if it keeps more than the level; else 0.
+// The content width that a column gets before all columns share the rest. It is what the column
+// keeps, if its fields aren't broken or if it keeps more than the level, and otherwise 0.
 fn given_content(is_nowrap: bool, level: u16, kept: u16) -> u16
     ensures { result ≡ (if is_nowrap || nat_lt level kept then kept else 0) }
 {
@@ -409,8 +411,8 @@ fn given_content(is_nowrap: bool, level: u16, kept: u16) -> u16
 }
 
 /// Makes the column of fields of expanded records as wide as the widest number or date that has
-/// room beside what the names need. The table is unchanged if no width is kept, or if no number or
-/// date would be broken anyway.
+/// room beside the names. The table is unchanged if no width is set, or if no number or date would
+/// be broken anyway. The only error is `OutOfMemory`.
 pub(crate) fn keep_nowrap_fields(contents: &mut LazyTable) -> Result<()>
     requires expanded { contents.old.rows.is_expanded ≡ true }
     requires header { contents.old.table.header ≡ None }
@@ -450,7 +452,8 @@ fn room_beside(names: u16, room: u16) -> u16
     room.saturating_sub(names.min(NEEDED_NAMES).max(1))
 }
 
-// The width of the widest number or date among the fields that has room, in terminal columns, or 0.
+// The width of the widest number or date, in terminal columns, among the fields that take at most
+// `room` terminal columns; 0 if there is none.
 fn field_width(contents: &LazyTable, room: u16) -> Result<u16>
     requires expanded { contents.now.rows.is_expanded ≡ true }
     requires header { contents.now.table.header ≡ None }
@@ -467,8 +470,8 @@ fn field_width(contents: &LazyTable, room: u16) -> Result<u16>
     Ok(widest)
 }
 
-/// The width of the widest number or date among the lines of a cell that has room, in terminal
-/// columns, or 0.
+/// The width of the widest number or date, in terminal columns, among the lines of a cell that take
+/// at most `room` terminal columns. 0 if there is no such number or date.
 pub(crate) fn cell_nowrap_width(
     alloc: Global,
     table: &Table,
@@ -486,7 +489,8 @@ pub(crate) fn cell_nowrap_width(
     }
 }
 
-// The width of a lent text of one line, if it is a number or a date and has room; else 0.
+// The width of a lent text of one line, if it is a number or a date of at most `room` terminal
+// columns; else 0.
 fn text_nowrap_width(alloc: Global, cell: &TextCell<'_>, room: u16) -> Result<u16>
     ensures value { (table : TableValue) → IfOk result (λ width. width
         ≡ cell_nowrap_width room (measured_cell table cell.now)) }
@@ -500,7 +504,8 @@ fn text_nowrap_width(alloc: Global, cell: &TextCell<'_>, room: u16) -> Result<u1
     Ok(nowrap_width(spaced.as_str(), room))
 }
 
-// The width of the widest number or date among the lines of a lent text that has room, or 0.
+// The width of the widest number or date among the lines of a lent text that take at most `room`
+// terminal columns; 0 if there is none.
 fn lent_nowrap_width(cell: &LinesCell<'_>, room: u16) -> u16
     ensures value { (table : TableValue)
         → result ≡ cell_nowrap_width room (measured_cell table cell.now) }
@@ -513,7 +518,8 @@ fn lent_nowrap_width(cell: &LinesCell<'_>, room: u16) -> u16
     widest
 }
 
-// The width of the widest number or date among the lines of a made cell that has room, or 0.
+// The width of the widest number or date among the lines of a made cell that take at most `room`
+// terminal columns; 0 if there is none.
 fn lines_nowrap_width(table: &Table, cell: &Cell, room: u16) -> u16
     ensures value { result ≡ cell_nowrap_width room (measured_cell table.now cell.now) }
     ensures within { result ≤ room }
@@ -526,7 +532,7 @@ fn lines_nowrap_width(table: &Table, cell: &Cell, room: u16) -> u16
     widest
 }
 
-// The width of a text line that is a number or a date and has room, or 0.
+// The width of a text line, if it is a number or a date of at most `room` terminal columns; else 0.
 fn nowrap_width(line: &str, room: u16) -> u16
     ensures value { result ≡ nowrap_width room line.now }
     ensures within { result ≤ room }
@@ -576,7 +582,8 @@ fn set_content(column: &mut Column, content: u16)
     column.set_constraint(ColumnConstraint::Absolute(Width::Fixed(content + 2)));
 }
 
-/// Returns true if a field isn't broken over lines: it is a short value, or a time stamp.
+/// Returns true if a field isn't broken over lines: it is a time stamp, or it is short (`is_short`)
+/// and is a number, a date, a time or neutral.
 pub(crate) fn is_nowrap(field: &str) -> bool
     ensures { result ≡ is_nowrap field.now }
 {

@@ -7,11 +7,11 @@ use csv_records::Points;
 /// The records and columns that are drawn, and the look of the drawing.
 #[derive(Debug)]
 pub struct Layout {
-    /// The records that are drawn.
+    /// The selection of the header and of the records that are drawn.
     pub selection: Selection,
-    /// The columns that are drawn.
+    /// The columns that are drawn, and their alignment.
     pub columns: Columns,
-    /// The look of the table.
+    /// The look of the drawing: its frame, its width, and the way in which texts are drawn.
     pub look: Look,
 }
 
@@ -25,68 +25,83 @@ impl Drop for Layout {
     }
 }
 
-/// The look of the table of some records.
+/// The look of a drawing of records: its frame, its width, and the way in which texts are drawn.
 #[derive(Clone, Copy, Debug)]
 pub struct Look {
-    /// The characters of the frame.
+    /// The characters of the frame, and of the lines between rows and columns.
     pub style: TableStyle,
-    /// The rule for the style's lines between rows.
+    /// The rule that decides whether lines between rows are drawn.
     pub separators: RowSeparators,
-    /// The rule for drawing each record as a table of its own, of names and fields.
+    /// The rule that decides whether each record is drawn as a table of its own, of names and
+    /// fields.
     pub expansion: Expansion,
-    /// The width to keep to, in terminal columns, if there is one.
+    /// The greatest width of the table, in terminal columns. `None` sets no width. If the width has
+    /// no room for the frame, the paddings and one terminal column for each column, the table is
+    /// wider.
     pub width: Option<u16>,
-    /// True if the table also fills the width. This has no effect without a width.
+    /// True if the table is made as wide as `width`, even if its texts need less. The flag has no
+    /// effect if `width` is `None`.
     pub fills_width: bool,
-    /// The most lines of a row below the header; `None` sets no limit.
+    /// The greatest number of lines of a row below the header. Longer rows are cut. `None` sets no
+    /// limit, and 0 counts as 1.
     pub max_height: Option<usize>,
     /// True if the header is written in bold.
     pub has_bold_header: bool,
-    /// True if the decimal points of a column of numbers are below each other, if there is room for
-    /// the spaces after its fields. In Markdown and in expanded records they aren't.
+    /// True if the decimal points of a column of numbers are put below each other, by spaces after
+    /// its fields. The flag has no effect in Markdown, in expanded records, and if the width has no
+    /// room for these spaces.
     pub aligns_decimals: bool,
-    /// True if SGR sequences in fields count no terminal columns. ESC is then kept as it is.
+    /// True if SGR sequences in fields are written as they are, and take no terminal columns. If
+    /// false, the ESC of each sequence is drawn as U+FFFD.
     pub has_sequences: bool,
-    /// True if the table is for Markdown. Each record is one line then: the frame is Markdown's, no
-    /// width is kept, nothing is cut, bold or expanded, and fields are cleaned, so that no sequence
-    /// stays.
+    /// True if the table is for Markdown. Each record is then one line in Markdown's frame,
+    /// whatever `style`, `width` and `max_height` are. Nothing is bold or expanded. The ESC of SGR
+    /// sequences is drawn as U+FFFD.
     pub is_markdown: bool,
 }
 
-/// A rule for the lines between rows.
+/// A rule that decides whether the lines that a style has between rows are drawn.
 #[derive(Clone, Copy, Debug, PartialEq, Eq)]
 pub enum RowSeparators {
-    /// Lines are drawn if the style has them.
+    /// Lines are drawn if the style has them, also between the fields of expanded records.
     Styled,
-    /// Lines are drawn if the style has them and a drawn row has more than one line.
+    /// Lines are drawn if the style has them and a drawn row has more than one line. No lines are
+    /// drawn between the fields of expanded records.
     Needed,
     /// No lines are drawn between rows.
     Never,
 }
 
-/// A rule for drawing each record as a table of its own.
+/// A rule that decides whether records are *expanded*. Each expanded record is drawn as a table of
+/// its own, with a row for the name and the field of each column.
 #[derive(Clone, Copy, Debug, PartialEq, Eq)]
 pub enum Expansion {
-    /// If a width is kept that has no room for a table of rows. Each column needs its content, or
-    /// as much of it as the longest word of its name takes, from 8 to 20 terminal columns. If a row
-    /// has at most one line, 8 are enough, whatever the names. A column of numbers and dates needs
-    /// its widest field too.
+    /// Records are expanded if a width is set that has no room for a table with a row for each
+    /// record. In such a table, each column needs its content, or as much of it as the longest word
+    /// of its name takes. This word counts as at least 8 and at most 20 terminal columns. It counts
+    /// as 8 if `max_height` allows only one line. A column of numbers and dates also needs its
+    /// widest field. There is always room if no record is drawn.
     Auto,
-    /// Always.
+    /// Records are always expanded.
     Always,
-    /// Never.
+    /// Records are never expanded.
     Never,
 }
 
-/// A column that is drawn.
+/// A column that is drawn, and how its fields are aligned and wrapped.
 #[derive(Clone, Copy, Debug)]
 pub struct ColumnPlan {
-    /// The position of its field in a record, counted from 0.
+    /// The position of the column's field in each record, counted from 0.
     pub position: usize,
-    /// The alignment of its cells; `None` leaves it to the table.
+    /// The alignment of the column's cells. `None` leaves the cells left-aligned, unless their
+    /// settings align them otherwise.
     pub alignment: Option<CellAlignment>,
-    /// The decimal mark of its fields, if they are right-aligned and have one.
+    /// The decimal mark of the column and the length of its longest fraction, with which decimal
+    /// marks can be put below each other. `None` if the column isn't right-aligned, or has no
+    /// decimal mark.
     pub points: Option<Points>,
-    /// True if its fields are only numbers and dates, which aren't broken over lines.
+    /// True if each drawn field of the column has at most 25 characters, and is a number, a date, a
+    /// time, or neutral, such as `n/a`. A time stamp may have up to 35 characters. Such fields
+    /// aren't broken over lines if the width has room for them.
     pub is_nowrap: bool,
 }

@@ -1,4 +1,4 @@
-//! The text that is written for some records.
+//! Draws records as text: as a table of rows, as expanded records, or for Markdown.
 
 ghost use Rattle.std.specs.Prelude.{◌≡◌, ◌++◌, ◌∷◌, [], List, IfOk, OnOk, false, string_bytes, true};
 ghost use Rattle.std.specs.List.{All};
@@ -32,9 +32,9 @@ use csv_records::Records;
 use std::alloc::{AllocError, Global};
 use std::fmt::Write;
 
-/// Draws records piece by piece. `count` is the number of records below the header, if it is known.
-/// If not all of them are drawn, a last line reports how many there are, or that there are more.
-/// The only error is `OutOfMemory`.
+/// Draws records piece by piece. `count` is the number of records below the header, or `None` if
+/// this number isn't known. If not all of these records are drawn, a last line reports their
+/// number, or that there are more. The only error is `OutOfMemory`.
 pub fn drawn_records(
     alloc: Global,
     records: Records,
@@ -46,14 +46,14 @@ pub fn drawn_records(
     drawn_styled_records(alloc, records, count, layout, Settings::none(alloc))
 }
 
-/// Draws records as `drawn_records` does, with settings of columns, rows and cells. Markdown, and
-/// records that are expanded, have none. If there are settings of rows, colours and attributes are
-/// written wherever the drawing goes. The only error is `OutOfMemory`.
+/// Draws records as `drawn_records` does, with settings of columns, rows and cells. The settings
+/// have no effect in Markdown and in expanded records. If there are settings of rows, colours and
+/// attributes are written even if the output isn't a terminal. The only error is `OutOfMemory`.
 ///
-/// If a width is kept, columns get what they need to keep numbers, dates and wide words whole, but
-/// no more than their greatest widths. A column with a greatest width is at most as wide as its
-/// longest line, or as its least width. If decimal points would be in texts that are wrapped at a
-/// greatest width, no column has its points below each other.
+/// Columns keep numbers, dates and words whole as far as the look's width allows, but no column
+/// exceeds its greatest width. A column with a greatest width is no wider than its longest wrapped
+/// line, unless its least width is greater. No column has its decimal points below each other if a
+/// greatest width would wrap the texts of a column with decimal points.
 pub fn drawn_styled_records(
     alloc: Global,
     records: Records,
@@ -95,8 +95,8 @@ pub fn text_of_records(
     Ok(joined(alloc, drawn)?)
 }
 
-/// Draws the records of a whole input as one text, which is empty if there are none. The only error
-/// is `OutOfMemory`.
+/// Draws the records of a whole input as one text, which is empty if there are no records. The only
+/// error is `OutOfMemory`.
 pub fn output_of_records(alloc: Global, records: Records, layout: &Layout) -> Result<String>
     ensures { IfOk result (λ output.
         RendersAnyRecords layout.now records (string_bytes output)) }
@@ -105,7 +105,7 @@ pub fn output_of_records(alloc: Global, records: Records, layout: &Layout) -> Re
 }
 
 /// Draws the records of a whole input as `drawn_styled_records` does, but returns one text, which
-/// is empty if there are none. The only error is `OutOfMemory`.
+/// is empty if there are no records. The only error is `OutOfMemory`.
 pub fn output_of_styled_records(
     alloc: Global,
     records: Records,
@@ -302,7 +302,7 @@ fn with_rule_between(contents: &LazyTable, first: &str, below: &str) -> Result<S
     Ok(text)
 }
 
-// The line that reports records that aren't drawn; empty if there are none. In Markdown an empty
+// The line that reports records that aren't drawn; empty if all are drawn. In Markdown an empty
 // line comes before it.
 fn note_of(
     alloc: Global,

@@ -1,4 +1,5 @@
-//! The rows of expanded records: each field has a row, with the name of its column.
+//! The rows of expanded records: each field has a row, with the name of its column. The only error
+//! of the functions is that memory runs out.
 
 ghost use Rattle.std.specs.Prelude.{◌≡◌, ◌<◌, ◌≤◌, ◌+◌, ◌*◌, ◌++◌, ◌∷◌, [], IfOk, None, OnOk, Some, false, length, map, max, option_map, slice_get, string_bytes};
 ghost use Rattle.comfy_table.specs.Drawing.{part_of_drawing, terminated_text_of};
@@ -22,7 +23,8 @@ use comfy_table::{PartEnds, Result, RowWriter, Table};
 use csv_records::Record;
 
 impl RecordRows {
-    /// The greatest content width of the fields of a record, in terminal columns, or 0.
+    /// The content width of the widest drawn field of an expanded record, in terminal columns; 0 if
+    /// the record has no drawn field. The only error is `OutOfMemory`.
     pub fn field_width(&self, table: &Table, fields: &Record<'_>) -> Result<u16>
         ensures { IfOk result (λ width. width
             ≡ greatest_at table.now cell_content_width (pairs_by self.now fields.now) 1) }
@@ -46,8 +48,9 @@ impl RecordRows {
         Ok(cell.content_width(table))
     }
 
-    /// The greatest content width of the names of the columns of which a record of `count` fields
-    /// has one, in terminal columns, or 0 if it has none.
+    /// The content width of the widest column name in the rows of an expanded record, in terminal
+    /// columns. `count` is the record's number of fields. The width is 0 if the record has no drawn
+    /// field. The only error is `OutOfMemory`.
     pub fn name_width(&self, table: &Table, count: usize) -> Result<u16>
         ensures { IfOk result (λ width. width ≡ names_width table.now self.now count) }
     {
@@ -64,7 +67,7 @@ impl RecordRows {
     }
 
     // Appends cells to a list until it has a name and a field for each column up to the one at a
-    // place.
+    // place. Two cells in the list belong to each column.
     #[inline(always)]
     fn list_names<'r>(&'r self, cells: &mut Vec<RowCell<'r>>, place: usize) -> Result<()>
         requires named { AreNamed self.now (map cell_of cells.old.items) }
@@ -79,7 +82,7 @@ impl RecordRows {
         self.push_names(cells, listed, place)
     }
 
-    // Appends cells for the columns from the first to the last place.
+    // Appends a name and an empty field for each column from the place `first` to the place `last`.
     #[inline(never)]
     fn push_names<'r>(
         &'r self,
@@ -113,9 +116,11 @@ impl RecordRows {
         push_text(cells, self.alloc(), "", 0, None, false, &self.look)
     }
 
-    /// Appends the row of a field in the column at a place, below the top border if it is the
-    /// first, else below the row separator. `cells` is an empty list at first, and keeps the names
-    /// for later records. The field replaces the field of the record before.
+    /// Appends the row of one field of an expanded record: the name of the column at the place
+    /// `place`, counted from 0, and the field. The top border comes before the row if `is_first` is
+    /// true, and the row separator otherwise. `cells` is an empty list at first, and keeps the
+    /// cells of the names for later records. The field's cell in the list is replaced. The only
+    /// error is `OutOfMemory`.
     pub fn push_pair<'r>(
         &'r self,
         text: &mut String,
@@ -146,8 +151,9 @@ impl RecordRows {
         writer.push_cells(text, pair, self.look.max_height, extent)
     }
 
-    /// The width of the widest number or date of the fields of a record that has room, in terminal
-    /// columns, or 0.
+    /// The width of the widest number or date in the drawn fields of a record, in terminal columns.
+    /// Only lines that take at most `room` terminal columns count. The width is 0 if no such number
+    /// or date is drawn. The only error is `OutOfMemory`.
     pub fn nowrap_width(&self, table: &Table, fields: &Record<'_>, room: u16) -> Result<u16>
         ensures value { IfOk result (λ width. width ≡ greatest_at table.now
             (cell_nowrap_width room) (pairs_by self.now fields.now) 1) }
@@ -162,7 +168,8 @@ impl RecordRows {
         Ok(widest)
     }
 
-    // The width of the widest number or date in a field that has room, in terminal columns, or 0.
+    // The width of the widest number or date, in terminal columns, among the lines of a field that
+    // take at most `room` terminal columns; 0 if there is none.
     fn nowrap_width_of(&self, table: &Table, field: &str, room: u16) -> Result<u16>
         ensures value { IfOk result (λ width. width ≡ cell_nowrap_width room
             (measured_cell table.now (cell_for self.now.look None field.now))) }
@@ -172,8 +179,10 @@ impl RecordRows {
         cell_nowrap_width(self.alloc(), table, &cell, room)
     }
 
-    /// The longest line of the cells at a position of the rows of the fields of a record, as they
-    /// are wrapped in a column, in terminal columns; 0 if there are none.
+    /// The width of the longest line of the cells at a position in the rows of an expanded record,
+    /// in terminal columns. Names are at position 0, and fields at position 1. Texts are wrapped as
+    /// in the column `info`. The width is 0 at other positions, or if the record has no drawn
+    /// field. The only error is `OutOfMemory`.
     pub fn longest_in_pairs(
         &self,
         table: &Table,
@@ -197,7 +206,8 @@ impl RecordRows {
         Ok(longest)
     }
 
-    // The longest line of the cell at a position of the row of a field, or 0 if there is none.
+    // The width of the longest line of the cell at a position in the row of a field, in terminal
+    // columns; 0 if there is no such cell.
     fn longest_of_pair(
         &self,
         table: &Table,

@@ -5,22 +5,25 @@ ghost use Rattle.csv_tables.specs.References.{begins_kind, begins_number, begins
 
 use csv_records::split_first;
 
-/// The part of a reference before `;`: a name, or the digits of a number.
+/// The kind of a character reference, which is that of its part before `;`.
 #[derive(Clone, Copy)]
 pub(crate) enum ReferenceKind {
+    /// A name, as in `&amp;`.
     Name,
+    /// Decimal digits, as in `&#42;`.
     Decimal,
+    /// Hexadecimal digits, as in `&#x2a;`.
     Hexadecimal,
 }
 
-/// Returns true if the text after an ampersand makes it a reference: a name, or `#` and a number,
-/// and then `;`.
-pub(crate) fn begins_reference(behind: &str) -> bool
-    ensures { result ≡ begins_reference (chars behind.now) }
+/// Returns true if the text after an ampersand begins with the rest of a character reference: a
+/// name, or `#` and a number, and then `;`.
+pub(crate) fn begins_reference(after: &str) -> bool
+    ensures { result ≡ begins_reference (chars after.now) }
 {
-    match split_first(behind) {
+    match split_first(after) {
         Some(('#', number)) => begins_number(number),
-        Some(_) => is_closed(ReferenceKind::Name, behind),
+        Some(_) => is_closed(ReferenceKind::Name, after),
         None => false,
     }
 }
@@ -35,7 +38,8 @@ fn begins_number(text: &str) -> bool
     }
 }
 
-// Returns true if a text begins with the name or the digits of such a reference, and then `;`.
+// Returns true if a text begins with the name or the digits of a reference of this kind, and then
+// `;`.
 fn is_closed(kind: ReferenceKind, text: &str) -> bool
     ensures { result ≡ is_closed kind (chars text.now) }
 {
@@ -50,11 +54,11 @@ fn closes(kind: ReferenceKind, text: &str) -> bool
     ensures { result ≡ closes kind (chars text.now) }
 {
     let mut rest = text;
-    while let Some((c, behind)) = split_first(rest) {
+    while let Some((c, after)) = split_first(rest) {
         if !is_of_kind(kind, c) {
             return c == ';';
         }
-        rest = behind;
+        rest = after;
     }
     false
 }

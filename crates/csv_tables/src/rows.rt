@@ -26,21 +26,24 @@ use comfy_table::{PartEnds, Result, RowWriter, Table};
 use csv_records::Record;
 use std::alloc::{AllocError, Global};
 
-/// The rows of records: one for each record, or one for each field of expanded records.
+/// The rows of records: one row for each record, or one row for each field of expanded records. The
+/// only error of the functions is `OutOfMemory`. In their parameters, `fields` is a record, and
+/// `at` is its place among the drawn records, counted from 0.
 #[derive(Drop)]
 pub(crate) struct RecordRows {
     pub selected: SelectedRecords,
-    // of columns, rows and cells; none if records are expanded
+    // the settings of columns, rows and cells; none if records are expanded
     pub settings: Settings,
     pub look: Look,
-    // each field has a row, with the name of its column
+    // true if each field has a row of its own, with the name of its column
     pub is_expanded: bool,
-    // decimal marks are lined up, which they aren't if records are expanded
+    // true if decimal marks are lined up; false if records are expanded
     pub is_aligned: bool,
 }
 
 impl RecordRows {
-    /// The table of these rows, with a header if there is one, but without the rows.
+    /// The table with its look and its header, but without its rows. There is no header if records
+    /// are expanded, or if no record is the header. The only error is `OutOfMemory`.
     pub fn headed_table(&self) -> Result<Table>
         ensures { IfOk result (λ table. table ≡ headed_by self.now) }
     {
@@ -53,8 +56,10 @@ impl RecordRows {
         }
     }
 
-    /// Raises widths until they have room for the row of the record at a place. Returns true only
-    /// if each cell of the row has at most one text line. Settings change neither.
+    /// Raises the content widths in `widths`, in terminal columns, until they have room for the row
+    /// of the record `fields`, which is at the place `at`, counted from 0. Returns true only if
+    /// each cell of the row has at most one text line. The settings of rows and cells change
+    /// neither the widths nor the result. The only error is `OutOfMemory`.
     pub fn widen(
         &self,
         widths: &mut Vec<u16>,
@@ -80,8 +85,8 @@ impl RecordRows {
         Ok(is_flat)
     }
 
-    // Raises the first width until it has room for the number of the row at a place, if rows are
-    // numbered. Returns true only if the number has at most one text line.
+    // Raises the first content width until it has room for the number of the row at the place `at`,
+    // if rows are numbered. Returns true only if the number has at most one text line.
     #[inline(always)]
     fn widen_number(&self, widths: &mut Vec<u16>, table: &Table, at: usize) -> Result<bool>
         ensures each { (fields : List Text) → OnOk result ((i : ℕ)
@@ -105,8 +110,10 @@ impl RecordRows {
         Ok(has_one_line(&cell))
     }
 
-    /// Appends the lines of the row of the record at a place, below the top border and the header
-    /// if it is the first, else below the row separator. `cells` is memory that is used again.
+    /// Appends the lines of a record's row to `text`. `fields` is the record, and `at` its place,
+    /// counted from 0. If `is_first` is true, the top border and the header come above these lines,
+    /// and otherwise the row separator. The memory of `cells` is used again for each row. The only
+    /// error is `OutOfMemory`.
     pub fn push_row<'r>(
         &'r self,
         text: &mut String,
@@ -130,8 +137,9 @@ impl RecordRows {
         writer.push_cells(text, cells.as_slice(), limit, extent)
     }
 
-    /// Returns true if the row of the record at a place is drawn in more than one line. `cells` is
-    /// memory that is used again.
+    /// Returns true if the row of a record is drawn in more than one line. `fields` is the record,
+    /// and `at` its place, counted from 0. The memory of `cells` is used again for each row. The
+    /// only error is `OutOfMemory`.
     pub fn is_tall<'r>(
         &'r self,
         writer: &RowWriter<'_>,
@@ -148,8 +156,10 @@ impl RecordRows {
         Ok(height > 1)
     }
 
-    /// The longest line of the cells at a position of the rows of the record at a place, as they
-    /// are wrapped in a column, in terminal columns; 0 if the rows have none.
+    /// The width, in terminal columns, of the longest line of the cells at a position in the rows
+    /// of a record. `fields` is the record, and `at` its place, counted from 0. Texts are wrapped
+    /// as in the column `info`. The width is 0 if there are no such cells. The only error is
+    /// `OutOfMemory`.
     pub fn longest_line(
         &self,
         table: &Table,
@@ -172,9 +182,10 @@ impl RecordRows {
         cell.longest_line(table, info)
     }
 
-    /// The width that the cell at a position of the row of the record at a place needs, in terminal
-    /// columns: its whole width if `is_nowrap`, else the width of its widest word. 0 if there is no
-    /// such cell.
+    /// The width, in terminal columns, that a column needs for the cell at `position` in the row of
+    /// a record. `fields` is the record, and `at` its place, counted from 0. The width is that of
+    /// the whole cell if `is_nowrap` is true, and otherwise that of its widest word. It is 0 if
+    /// there is no such cell. The only error is `OutOfMemory`.
     pub fn cell_need(
         &self,
         table: &Table,
@@ -195,7 +206,7 @@ impl RecordRows {
         cell_need(self.alloc(), table, &cell, is_nowrap)
     }
 
-    /// The allocator of cells.
+    /// The allocator with which cells are made.
     pub(crate) fn alloc(&self) -> Global {
         let selected = &self.selected;
         selected.alloc
@@ -219,8 +230,8 @@ impl RecordRows {
         columns.len() + self.number_count()
     }
 
-    // The cell at a position of the row of the record at a place, without settings: its number, or
-    // a field.
+    // The cell at a position in the row of the record at the place `at`, without settings: its
+    // number, or a field.
     #[inline(always)]
     fn cell_in<'r>(
         &'r self,
@@ -248,7 +259,7 @@ impl RecordRows {
         field_cell(selected.alloc, field, column, self.is_aligned, &self.look)
     }
 
-    // The settings of the row of the record at a place.
+    // The settings of the row of the record at the place `at`, if there are any.
     #[inline(always)]
     fn settings_at(&self, at: usize) -> Option<&RowSettings>
         ensures { option_map (λ row. row.now) result ≡ settings_by self.now at }
@@ -262,7 +273,7 @@ impl RecordRows {
         }
     }
 
-    // Lists the cells of the row of the record at a place.
+    // Replaces the list by the cells of the row of the record at the place `at`.
     fn list_cells<'r>(
         &'r self,
         cells: &mut Vec<RowCell<'r>>,
@@ -281,7 +292,8 @@ impl RecordRows {
         self.push_fields(cells, fields, selected.columns_within(fields), settings)
     }
 
-    // Appends the cells of the fields of these columns, which have these settings.
+    // Appends the cells of the fields of these columns. The settings at a position are for the
+    // field at this position of the record.
     #[inline(always)]
     fn push_fields<'r>(
         &'r self,

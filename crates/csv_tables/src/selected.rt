@@ -1,4 +1,4 @@
-//! The selected part of some records.
+//! Records, and the selection of what is drawn of them.
 
 ghost use Rattle.std.specs.Prelude.{◌≡◌, All, IfOk, [], map, true, unwrap_or};
 ghost use Rattle.csv.specs.Records.{AllText};
@@ -18,7 +18,7 @@ use csv_records::{Record, Records, Rows};
 use std::alloc::{AllocError, Global};
 use std::marker::Model;
 
-/// The names, the rows and the columns that are drawn of some records, with these records.
+/// Records, with the header, the rows and the columns of these records that are drawn.
 #[derive(Drop)]
 pub struct SelectedRecords {
     pub(crate) alloc: Global,
@@ -32,10 +32,10 @@ pub struct SelectedRecords {
     count: Option<usize>,
     pub(crate) columns: Vec<ColumnPlan>,
     // for each column, the least position among it and the columns after it
-    least_behind: Vec<usize>,
-    // true if a column of numbers comes before the columns
+    least_of_last: Vec<usize>,
+    // true if a column with the numbers of records comes before the columns
     pub(crate) is_numbered: bool,
-    // the word for a record in lines that count them
+    // the word for a record in lines that count records
     pub(crate) noun: Noun,
 }
 
@@ -46,7 +46,7 @@ impl Model for SelectedRecords {
 
     ghost Value = { SelectedValue };
 
-    ghost invariant = { λ c. c.least_behind.items ≡ least_positions c.columns.items };
+    ghost invariant = { λ c. c.least_of_last.items ≡ least_positions c.columns.items };
 
     ghost view = { λ c. record {
       names = if c.is_headed
@@ -61,8 +61,9 @@ impl Model for SelectedRecords {
 }
 
 impl SelectedRecords {
-    /// Selects the rows and columns of these records that are drawn. `count` is the number of
-    /// records below the header, if it is known. The only error is `OutOfMemory`.
+    /// Selects the rows and the columns of `records` that are drawn. `count` is the number of
+    /// records below the header, or `None` if this number isn't known. The only error is
+    /// `OutOfMemory`.
     pub fn new(
         alloc: Global,
         records: Records,
@@ -73,7 +74,7 @@ impl SelectedRecords {
     {
         let rows = layout.selection.rows(&records.rows());
         let columns = drawn_columns(alloc, &layout.columns, &rows, layout.look.has_sequences)?;
-        let least_behind = least_positions_of(alloc, columns.as_slice())?;
+        let least_of_last = least_positions_of(alloc, columns.as_slice())?;
         Ok(SelectedRecords {
             alloc,
             records,
@@ -82,7 +83,7 @@ impl SelectedRecords {
             limit: layout.selection.limit,
             count,
             columns,
-            least_behind,
+            least_of_last,
             is_numbered: layout.selection.is_numbered,
             noun: layout.selection.noun,
         })
@@ -97,7 +98,8 @@ impl SelectedRecords {
         selected
     }
 
-    /// Centres the columns whose settings centre them. Their decimal marks aren't lined up.
+    /// Centres the columns whose settings centre them. The decimal marks of these columns aren't
+    /// put below each other.
     pub(crate) fn with_centers(
         self,
         settings: &[ColumnSettings],
@@ -113,7 +115,7 @@ impl SelectedRecords {
         Ok(selected)
     }
 
-    /// The header, if there is one.
+    /// The header, or `None` if no record is the header.
     pub(crate) fn names(&self) -> Option<Record<'_>>
         ensures { result ≡ self.now.names }
     {
@@ -132,7 +134,7 @@ impl SelectedRecords {
         self.names().unwrap_or(self.records.rows().blank())
     }
 
-    /// The rows that are drawn.
+    /// The records below the header that are drawn.
     pub(crate) fn rows(&self) -> Rows<'_>
         ensures { result ≡ self.now.rows }
     {
@@ -140,8 +142,8 @@ impl SelectedRecords {
         limited(&below, self.limit)
     }
 
-    /// Does nothing. It ensures for proofs that the names, and the fields that are drawn, are made
-    /// of whole characters.
+    /// Does nothing. For proofs, its clauses state that the names, and the fields that are drawn,
+    /// are valid UTF-8.
     pub(crate) fn hold_texts(&self)
         ensures rows { All AllText self.now.rows }
         ensures names { AllText (unwrap_or self.now.names []) }
@@ -149,15 +151,16 @@ impl SelectedRecords {
         self.records.rows().hold_texts();
     }
 
-    /// The columns up to the last one of which a record has the field. No others are looked at, so
-    /// that a record of few fields costs little however many columns there are.
+    /// The drawn columns up to the last one of which the record `row` has a field. Later columns
+    /// aren't examined, so that a record of few fields takes little time, however many columns
+    /// there are.
     pub(crate) fn columns_within(&self, row: &Record<'_>) -> &[ColumnPlan]
         ensures { result.now ≡ columns_within row.now self.now.columns }
     {
         if self.has_last(row) {
             return self.columns.as_slice();
         }
-        for (count, least) in self.least_behind.iter().enumerate() {
+        for (count, least) in self.least_of_last.iter().enumerate() {
             if row.len() <= *least {
                 return &self.columns[..count];
             }
@@ -176,7 +179,8 @@ impl SelectedRecords {
         }
     }
 
-    /// The alignment of each column, beginning with the column of numbers if there is one.
+    /// The alignment of each column, beginning with the column of record numbers if records are
+    /// numbered.
     pub(crate) fn sides(&self) -> Result<Vec<Option<CellAlignment>>, AllocError>
         ensures { IfOk result (λ made. made.items ≡ sides self.now) }
     {
@@ -190,7 +194,7 @@ impl SelectedRecords {
         Ok(sides)
     }
 
-    /// The number of records below the header, drawn or not, if it is known.
+    /// The number of records below the header, drawn or not. `None` if this number isn't known.
     pub(crate) fn count(&self) -> Option<usize>
         ensures { result ≡ self.now.count }
     {
@@ -233,8 +237,8 @@ fn least_positions_of(alloc: Global, columns: &[ColumnPlan]) -> Result<Vec<usize
 {
     let mut leasts = Vec::with_capacity(alloc, columns.len())?;
     let mut least = usize::MAX;
-    for behind in 0..columns.len() {
-        least = least.min(columns[columns.len() - 1 - behind].position);
+    for after in 0..columns.len() {
+        least = least.min(columns[columns.len() - 1 - after].position);
         leasts.push(least)?;
     }
     leasts.reverse();

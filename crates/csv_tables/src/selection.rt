@@ -8,27 +8,28 @@ ghost use Rattle.csv_tables.specs.Drawn.{column_count, drawn_rows, filled_column
 use csv_records::{Record, Rows};
 use std::marker::Model;
 
-/// The selection of the records that are drawn.
+/// The header of records, the greatest number of records that are drawn, and the way in which
+/// records are counted.
 #[derive(Clone, Copy, Debug)]
 pub struct Selection {
     /// True if the first record is the header.
     pub has_header: bool,
-    /// The most records below the header that are drawn; `None` draws all.
+    /// The greatest number of records below the header that are drawn; `None` draws all.
     pub limit: Option<usize>,
-    /// True if the first column is `#`, with the number of each record below the header, counted
-    /// from 1. It has no position, and other columns keep theirs. Expanded records have their
-    /// numbers above them anyway, and no such field.
+    /// True if a first column `#` shows the number of each record below the header, counted from 1.
+    /// This column has no position, and doesn't change the positions of the others. Expanded
+    /// records don't have it, because a line with its number is above each of them.
     pub is_numbered: bool,
-    /// The word for a record in the lines that count records.
+    /// The word for a record in the lines that count records, such as `record 1 of 2`.
     pub noun: Noun,
 }
 
 /// The word for a record in the lines that count records.
 #[derive(Clone, Copy, Debug, PartialEq, Eq)]
 pub enum Noun {
-    /// `record 1 of 2`.
+    /// The word is `record`, as in `record 1 of 2`.
     Record,
-    /// `row 1 of 2`.
+    /// The word is `row`, as in `row 1 of 2`.
     Row,
 }
 
@@ -55,7 +56,7 @@ impl Noun {
 }
 
 impl Selection {
-    /// The header of these records, or a record without fields.
+    /// The header of `records`, or a record without fields if there is no header.
     pub fn names<'a>(&self, records: &Rows<'a>) -> Record<'a>
         ensures { result ≡ names_or_none self.now records.now }
     {
@@ -69,15 +70,15 @@ impl Selection {
         limited(&records_below(records, self.has_header), self.limit)
     }
 
-    /// The number of columns: the most fields that the header or a drawn record has.
+    /// The number of columns: the greatest number of fields of the header or of a drawn record.
     pub fn column_count(&self, records: &Rows<'_>) -> usize
         ensures { result ≡ column_count self.now records.now }
     {
         count_of(&self.names(records), &self.rows(records))
     }
 
-    /// The number of columns up to the last one with a name or a field that isn't empty. It is at
-    /// least 1, unless there are no columns.
+    /// The number of columns up to the last one with a name or a drawn field that isn't empty. The
+    /// number is at least 1, unless there are no columns.
     pub fn filled_columns(&self, records: &Rows<'_>) -> usize
         ensures { result ≡ filled_columns self.now records.now }
     {
@@ -86,7 +87,8 @@ impl Selection {
     }
 }
 
-/// The columns that are drawn, by their positions, which are counted from 0.
+/// The columns that are drawn, and their alignment. Columns are given by their positions, which are
+/// counted from 0.
 #[derive(Debug)]
 pub struct Columns {
     drawn: Vec<usize>,
@@ -118,8 +120,9 @@ impl Model for Columns {
 
 impl Columns {
     /// Selects the columns to draw, in their order, and sets which of them are right-aligned and
-    /// left-aligned. A position in both lists is right-aligned. All other columns are right-aligned
-    /// if their fields are numbers. No record needs to have a field at such a position.
+    /// left-aligned. A position in both `right` and `left` is right-aligned. A column in neither
+    /// list is right-aligned if its fields are numbers. No record needs to have fields at the
+    /// positions in the lists.
     pub fn new(drawn: Vec<usize>, right: Vec<usize>, left: Vec<usize>) -> Columns
         ensures { result
             ≡ record { drawn = drawn.items; right = right.items; left = left.items } }
@@ -178,7 +181,7 @@ fn filled_len(names: &Record<'_>, rows: &Rows<'_>) -> usize
     filled
 }
 
-/// The header, if there is one.
+/// The header, or `None` if no record is the header.
 pub(crate) fn names_of<'a>(records: &Rows<'a>, has_header: bool) -> Option<Record<'a>>
     ensures { result ≡ names_of has_header records.now }
 {
@@ -190,7 +193,7 @@ pub(crate) fn records_below<'a>(records: &Rows<'a>, has_header: bool) -> Rows<'a
     ensures { result ≡ records_below has_header records.now }
 {
     if has_header {
-        records.rows_behind(1)
+        records.rows_after(1)
     } else {
         records.iter()
     }

@@ -1,4 +1,5 @@
-//! Lines between rows, which are left out if they aren't wanted.
+//! Lines between rows, which are left out if they aren't wanted. The only error of the functions is
+//! that memory runs out.
 
 ghost use Rattle.std.specs.Prelude.{◌≡◌, IfOk, OnOk, false, map, nat_lt, true};
 ghost use Rattle.std.specs.List.{list_any};
@@ -12,7 +13,8 @@ use crate::options::RowSeparators;
 use crate::rows::RecordRows;
 use comfy_table::{ArrangedTable, LineStyle, Result, RowWriter, TableStyle};
 
-/// Leaves out the lines that a table's style has between rows, if they aren't wanted.
+/// Leaves out the lines that a table's style has between rows, unless the rule `separators` draws
+/// these lines.
 pub(crate) fn separate_rows(contents: &mut LazyTable, separators: RowSeparators) -> Result<()>
     requires { contents.old.rows.is_expanded ≡ false }
     ensures table { OnOk result (AreRowsSeparated separators contents.old.table
@@ -29,8 +31,8 @@ pub(crate) fn separate_rows(contents: &mut LazyTable, separators: RowSeparators)
     }
 }
 
-/// Leaves out the lines between the fields of expanded records, unless all lines of the style are
-/// wanted. Tall rows need none there, because names part the fields.
+/// Leaves out the lines between the fields of expanded records, unless the rule is `Styled`. With
+/// `Needed`, fields of several lines need no lines between them, because names separate the fields.
 pub(crate) fn separate_fields(contents: &mut LazyTable, separators: RowSeparators)
     ensures table { AreRowsSeparated (separators_in true separators) contents.old.table
         contents.new.table }

@@ -1,4 +1,5 @@
-//! The settings that columns, rows and cells of a table of rows may have.
+//! The settings that columns, rows and cells may have in a table that has one row for each record.
+//! The settings have no effect in Markdown and in expanded records.
 
 ghost use Rattle.std.specs.Prelude.{◌≡◌, [], IfOk, None, Some, option_map, slice_get, true};
 ghost use Rattle.std.specs.Option.{option_or};
@@ -11,18 +12,20 @@ use comfy_parts::{Cell, Result};
 use std::alloc::Global;
 use std::marker::Model;
 
-/// The settings of a column in a table of rows. Numbers count terminal columns.
+/// The settings of a column in a table that has one row for each record. All widths are counted in
+/// terminal columns. The settings have no effect in Markdown and in expanded records.
 #[derive(Clone, Copy, Debug, PartialEq, Eq)]
 pub struct ColumnSettings {
-    /// The terminal columns left free to the left and to the right of its texts.
+    /// The numbers of terminal columns that stay free to the left and to the right of the column's
+    /// texts.
     pub padding: (u16, u16),
-    /// The least width of its texts; `None` sets none.
+    /// The least width of the column without its paddings. `None` sets no least width.
     pub least: Option<u16>,
-    /// The greatest width of its texts; `None` sets none. A number below `least`, or below 1, is
-    /// raised to that. Longer texts are wrapped.
+    /// The greatest width of the column without its paddings. `None` sets no greatest width. A
+    /// width below `least` counts as `least`, and 0 counts as 1. Wider texts are wrapped.
     pub greatest: Option<u16>,
-    /// True if its texts are centred, whatever side `Columns` gives them. Their decimal points
-    /// aren't below each other then.
+    /// True if the column's texts are centred, whatever alignment `Columns` sets. The column's
+    /// decimal points then aren't below each other.
     pub is_centered: bool,
 }
 
@@ -41,16 +44,18 @@ impl ColumnSettings {
     }
 }
 
-/// The settings of a cell in a table of rows.
+/// The settings of a cell in a table that has one row for each record. The settings have no effect
+/// in Markdown and in expanded records.
 #[derive(Debug)]
 pub struct CellSettings {
-    /// Its alignment; `None` keeps the alignment of its column.
+    /// The alignment of the cell; `None` keeps the alignment of its column.
     pub alignment: Option<CellAlignment>,
-    /// The colour of its text.
+    /// The colour of the cell's text; `None` sets no colour.
     pub foreground: Option<Color>,
-    /// The background colour of its text.
+    /// The background colour of the cell's text; `None` sets no colour.
     pub background: Option<Color>,
-    /// The attributes of its text. In a bold header they are written after bold.
+    /// The attributes of the cell's text, such as italic. In a bold header, the attributes are
+    /// written after bold.
     pub attributes: Vec<Attribute>,
 }
 
@@ -86,7 +91,7 @@ impl CellSettings {
         self.alignment.or(alignment)
     }
 
-    /// Returns true if they have no colour and no attribute.
+    /// Returns true only if these settings have no colour and no attribute.
     pub(crate) fn is_plain(&self) -> bool
         ensures foreground { result ≡ true → self.now.foreground ≡ None }
         ensures background { result ≡ true → self.now.background ≡ None }
@@ -95,8 +100,9 @@ impl CellSettings {
         self.foreground.is_none() && self.background.is_none() && self.attributes.is_empty()
     }
 
-    /// A cell with these settings. The cell's own attributes come first. The only error is
-    /// `OutOfMemory`.
+    /// The cell with the alignment and the colours that these settings set; otherwise the cell
+    /// keeps its own. The attributes of the settings come after the cell's own attributes. The only
+    /// error is `OutOfMemory`.
     pub fn dressed(&self, cell: Cell) -> Result<Cell>
         ensures { IfOk result (λ made. made ≡ dressed (Some self.now) cell) }
     {
@@ -133,14 +139,16 @@ fn coloured(cell: Cell, foreground: Option<Color>, background: Option<Color>) ->
     }
 }
 
-/// The settings of a row in a table of rows.
+/// The settings of a row in a table that has one row for each record. The settings have no effect
+/// in Markdown and in expanded records.
 #[derive(Debug)]
 pub struct RowSettings {
-    /// The most lines of the row, in place of the look's limit; 0 counts as 1. The header has no
-    /// such limit.
+    /// The greatest number of lines of the row; 0 counts as 1. `None` keeps the `max_height` of the
+    /// `Look`. The field has no effect for the header.
     pub max_height: Option<usize>,
-    /// The settings of its cells. The item at a position is for the field at this position of its
-    /// record. Fields past the last item have no settings, and neither has the row's number.
+    /// The settings of the row's cells. The item at a position is for the field at this position of
+    /// the record. Fields past the last item have no settings, and neither has the cell with the
+    /// record's number.
     pub cells: Vec<CellSettings>,
 }
 
@@ -162,14 +170,15 @@ impl Model for RowSettings {
 }
 
 impl RowSettings {
-    /// The most lines of a row that would have the limit `limit` without these settings.
+    /// The greatest number of lines of the row, or `None` without a limit. If these settings have
+    /// no limit, it is `limit`.
     pub(crate) fn limit(&self, limit: Option<usize>) -> Option<usize>
         ensures { result ≡ option_or self.now.max_height limit }
     {
         self.max_height.or(limit)
     }
 
-    /// The settings of its cells.
+    /// The settings of the row's cells, by the positions of fields in the record.
     pub(crate) fn of_cells(&self) -> &[CellSettings]
         ensures { result.now ≡ self.now.cells }
     {
@@ -177,16 +186,17 @@ impl RowSettings {
     }
 }
 
-/// The settings of a table of rows.
+/// The settings of a table that has one row for each record. The settings have no effect in
+/// Markdown and in expanded records.
 #[derive(Debug)]
 pub struct Settings {
-    /// The settings of its columns. The item at a position is for the fields at this position of
-    /// the records. Columns past the last item have no settings, and neither has the column that
-    /// shows the numbers of records.
+    /// The settings of the table's columns. The item at a position is for the fields at this
+    /// position of the records. Columns past the last item have no settings, and neither has the
+    /// column that shows the numbers of records.
     pub columns: Vec<ColumnSettings>,
-    /// The settings of its rows. The first item is for the header, and isn't used if there is none.
-    /// The items after it are for the records in their order. Records past the last item have no
-    /// settings.
+    /// The settings of the table's rows. The first item is for the header, and isn't used if there
+    /// is no header. The items after it are for the records below the header, in their order.
+    /// Records past the last item have no settings.
     pub rows: Vec<RowSettings>,
 }
 
@@ -218,14 +228,14 @@ impl Settings {
         }
     }
 
-    /// The settings of its columns.
+    /// The settings of the table's columns, by the positions of fields in records.
     pub(crate) fn of_columns(&self) -> &[ColumnSettings]
         ensures { result.now ≡ self.now.columns }
     {
         self.columns.as_slice()
     }
 
-    /// The settings of its header and its rows.
+    /// The settings of the table's header, and then of its rows.
     pub(crate) fn of_rows(&self) -> &[RowSettings]
         ensures { result.now ≡ self.now.rows }
     {
@@ -244,7 +254,7 @@ pub(crate) fn cell_settings(row: Option<&RowSettings>) -> &[CellSettings]
     }
 }
 
-/// The settings of the cell of the field at a position, if it has any.
+/// The settings of the cell of the field at a position, or `None` if the cell has no settings.
 #[inline(always)]
 pub(crate) fn settings_of(settings: &[CellSettings], position: usize) -> Option<&CellSettings>
     ensures { option_map (λ own. own.now) result ≡ slice_get settings.now position }
@@ -252,7 +262,8 @@ pub(crate) fn settings_of(settings: &[CellSettings], position: usize) -> Option<
     settings.get(position)
 }
 
-/// The most lines of a row: the limit of its settings if they have one, else the look's.
+/// The greatest number of lines of a row: the limit of its settings if they have a limit, and
+/// otherwise the look's `max_height`. `None` means that there is no limit.
 #[inline(always)]
 pub(crate) fn limit_by(row: Option<&RowSettings>, look: &Look) -> Option<usize>
     ensures { result ≡ limit_by (option_map (λ row. row.now) row.entry) look.now }

@@ -19,12 +19,14 @@ use std::alloc::{AllocError, Global};
 /// A summary of the fields of one column.
 #[derive(Clone, Copy)]
 pub(crate) struct ColumnSummary {
-    /// Their common kind: `Other` if a field is of this kind, else `Number` if a field is a
-    /// number, else `Neutral`.
+    /// The common kind of the fields: `Other` if a field is of this kind, else `Number` if a field
+    /// is a number, else `Neutral`.
     pub(crate) kind: FieldKind,
-    /// Their decimal marks, if each field is narrow, and is a number or neutral.
+    /// The summary of decimal marks, from which the decimal mark of the column follows. `None`
+    /// unless each field is narrow (`is_narrow`), and is a plain number or neutral.
     pub(crate) marks: Option<ColumnMarks>,
-    /// True if each field is a number or a date that isn't broken over lines.
+    /// True if no field is to be broken over lines (`is_nowrap`): each is a short number, date or
+    /// time, or neutral.
     pub(crate) are_nowrap: bool,
 }
 
@@ -32,7 +34,7 @@ pub(crate) struct ColumnSummary {
 #[derive(Clone, Copy)]
 pub(crate) enum FieldKind {
     Number,
-    // nothing, or a word for a missing value
+    // no text, a dash, or a word for a missing value
     Neutral,
     Other,
 }
@@ -108,8 +110,8 @@ impl ColumnSummary {
     }
 }
 
-/// The summary of the visible texts of each column, by its position. Each record is read only up to
-/// its last field, because many records may have few of the columns.
+/// The summary of the visible texts of each column, by its position. Columns after the last field
+/// of a record aren't examined for this record, because many records may have few of the columns.
 pub(crate) fn summaries_of(
     alloc: Global,
     rows: &Rows<'_>,
@@ -164,7 +166,8 @@ fn add_field(
     Ok(())
 }
 
-/// The summary of the fields of the column at a position.
+/// The summary of the fields of the column at a position, or the summary of no fields if the list
+/// has no such column.
 pub(crate) fn summary_at(summaries: &[ColumnSummary], position: usize) -> ColumnSummary
     ensures { result ≡ slice_index_or summaries.now position (summary_of []) }
 {

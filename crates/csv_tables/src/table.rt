@@ -1,4 +1,4 @@
-//! The tables of some records.
+//! Makes the tables of records, without their rows, by a look.
 
 ghost use Rattle.std.specs.Prelude.{◌≡◌, ◌+◌, ◌||◌, IfOk, decimal, option_map};
 ghost use Rattle.csv_tables.specs.Cells.{number_of};
@@ -15,7 +15,8 @@ use csv_records::Record;
 use std::alloc::Global;
 
 impl SelectedRecords {
-    // The number of the row at a place, if rows are numbered.
+    // The number of the row at the place `at`, counted from 1, if rows are numbered. Places are
+    // counted from 0.
     pub(crate) fn number_at(&self, at: usize) -> Option<u128>
         ensures { option_map decimal result ≡ number_of self.now.is_numbered (at + 1) }
     {
@@ -47,8 +48,9 @@ impl SelectedRecords {
     }
 }
 
-/// A table without rows that has this look. If `is_styled`, or if the header is bold, colours and
-/// attributes are written wherever the drawing goes.
+/// A table without rows that has the frame and the width of `look`, and treats SGR sequences as
+/// `look` sets. If `is_styled` is true, or if the header is bold, colours and attributes are
+/// written even if the output isn't a terminal.
 pub(crate) fn empty_table(alloc: Global, is_styled: bool, look: &Look) -> Table
     ensures { result ≡ record (empty_table look.now) {
       enforce_styling = is_styled || look.now.has_bold_header;

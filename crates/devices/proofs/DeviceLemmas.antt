@@ -11,10 +11,10 @@ use Rattle.devices.specs.Transfer.{Moves}
 use Rattle.devices.specs.Device.{Bytes, MemorySourceValue, left_in, rest_after, after_reading, is_due, is_end}
 
 -- the front of a buffer after bytes of a text were written to it
-pub front : (count : ℕ) (text behind : Bytes) → count ≤ length text → take count (take count text ++ behind) ≡ take count text
-front count text behind fits =
+pub front : (count : ℕ) (text after : Bytes) → count ≤ length text → take count (take count text ++ after) ≡ take count text
+front count text after fits =
     let len : length (take count text) ≡ count = length-take-le count text fits in
-    ap (λ n. take n (take count text ++ behind)) (sym len) ∙ take-append_seam (take count text) behind
+    ap (λ n. take n (take count text ++ after)) (sym len) ∙ take-append_seam (take count text) after
 
 -- the bytes that are left after a call
 pub left-after : (rest : Option Bytes) (room : ℕ) → unwrap_or (rest_after rest room) [] ≡ drop (min (length (unwrap_or rest [])) room) (unwrap_or rest [])

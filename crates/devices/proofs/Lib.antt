@@ -1,3 +1,3 @@
-pub mod AskedLemmas
+pub mod TestedLemmas
 pub mod RunLemmas
 pub mod DeviceLemmas

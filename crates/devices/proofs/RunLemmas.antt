@@ -1,6 +1,6 @@
 -- The facts of a run that wrote nothing, or a part of an output.
 use Rattle.std.proofs.Common.{◌≡◌, ◌++◌, inl, inr, true, false, [], Some, Err, ap, append_assoc, arith, length-append, refl, sym, subst, ◌∙◌}
-use Rattle.devices.proofs.AskedLemmas.{none_asked}
+use Rattle.devices.proofs.TestedLemmas.{none_tested}
 use Rattle.devices.specs.Device.{Bytes}
 use Rattle.devices.specs.Outcome.{Beginning, Extent, IsBeginningOnly, NoDeviceFailed, NoneIsEnough, RunFacts, Whole}
 use Rattle.devices.specs.Run.{IsAfter, stop_of}
@@ -14,10 +14,10 @@ module _ (T : Type 0) {A E : Type 0} (IsNotEnough : Bytes → Type 0) (IsOutput 
   pub after_unread : (e : ReadError) (facts : RunFacts) → facts.read_failed ≡ is_source_fault {T = T} (Err e) → facts.write_failed ≡ false → facts.written ≡ [] → (facts.end_was_read ≡ true → facts.input ≡ [])
       → IsAfter IsNotEnough IsOutput IsRefusal {T = T} (Err (stop_of e)) facts
   after_unread read.Source facts failed unfailed nothing left =
-      inl (record { none_is_enough = λ whole. subst (NoneIsEnough IsNotEnough) (sym (left whole)) (none_asked IsNotEnough); says = record { failed = failed; no_write_failed = unfailed; nothing_written = nothing; nothing_left = left } })
+      inl (record { none_is_enough = λ whole. subst (NoneIsEnough IsNotEnough) (sym (left whole)) (none_tested IsNotEnough); says = record { failed = failed; no_write_failed = unfailed; nothing_written = nothing; nothing_left = left } })
   after_unread read.OutOfMemory facts failed unfailed nothing left =
       inl (record {
-        none_is_enough = λ whole. subst (NoneIsEnough IsNotEnough) (sym (left whole)) (none_asked IsNotEnough);
+        none_is_enough = λ whole. subst (NoneIsEnough IsNotEnough) (sym (left whole)) (none_tested IsNotEnough);
         says = record { no_device_failed = record { no_read_failed = failed; no_write_failed = unfailed }; nothing_written = nothing; fine = left };
       })
 
@@ -31,18 +31,18 @@ module _ (T : Type 0) {A E : Type 0} (IsNotEnough : Bytes → Type 0) (IsOutput 
       let own = known facts.input refl in
       inr (record {
         n = own.1;
-        is_asked = own.2;
+        is_tested = own.2;
         unread = own.0;
         says = record { no_device_failed = record { no_read_failed = unfailed.no_read_failed; no_write_failed = unfailed.no_write_failed }; whole = refl; fault = subst (λ t. IsRefusal Beginning t e) own.3 fault; nothing_written = nothing };
       })
 
 -- if some pieces were written, and a part of the next one, a part of the output was written
-pub part_written : (written part piece behind left whole : Bytes) → written ++ left ≡ whole → left ≡ piece ++ behind → IsBeginningOnly part piece → IsBeginningOnly (written ++ part) whole
-part_written written part piece behind left whole all next beginning =
+pub part_written : (written part piece after left whole : Bytes) → written ++ left ≡ whole → left ≡ piece ++ after → IsBeginningOnly part piece → IsBeginningOnly (written ++ part) whole
+part_written written part piece after left whole all next beginning =
     record {
-      rest = beginning.rest ++ behind;
+      rest = beginning.rest ++ after;
       joins =
-          sym all ∙ ap (λ t. written ++ t) (next ∙ ap (λ t. t ++ behind) beginning.joins ∙ append_assoc part beginning.rest behind)
-          ∙ sym (append_assoc written part (beginning.rest ++ behind));
-      some_are_missing = omega (arith, length-append beginning.rest behind, beginning.some_are_missing);
+          sym all ∙ ap (λ t. written ++ t) (next ∙ ap (λ t. t ++ after) beginning.joins ∙ append_assoc part beginning.rest after)
+          ∙ sym (append_assoc written part (beginning.rest ++ after));
+      some_are_missing = omega (arith, length-append beginning.rest after, beginning.some_are_missing);
     }

@@ -1,4 +1,4 @@
--- The results of calls of a device.
+-- The results of calls of a device, which is a source or a sink.
 -- Source: this library's own.
 use Rattle.std.specs.Prelude.{ℕ, ◌-◌, ◌==◌, Bool, false, ◌&&◌, ◌||◌, nat_lt, List, [], ◌++◌, Option, Some, None, Result, Ok, Err, length, take, drop, min, unwrap_or, if◌then◌else◌}
 
@@ -10,7 +10,7 @@ abbrev pub is_end : {E : Type 0} → Result ℕ E → ℕ → Bool
 is_end (Ok count) room = (count == 0) && nat_lt 0 room
 is_end (Err _) room = false
 
--- the next call of a device over memory fails: the device has failed before, or its count is at 1
+-- the next call of a device in memory fails: the device has failed before, or `fails_at` is 1
 abbrev pub is_due : Bool → ℕ → Bool
 is_due failed fails_at = failed || (fails_at == 1)
 

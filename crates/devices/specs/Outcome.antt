@@ -1,4 +1,4 @@
--- The facts of a run, by the states of its devices before and after it.
+-- The facts of a call of `run`, by the states of its source and its sink before and after the call.
 -- Source: this library's own.
 use Rattle.std.specs.Prelude.{ℕ, ◌≡◌, ◌<◌, ◌≤◌, ◌*◌, ◌^◌, ◌⊎◌, Bool, true, false, [], ◌++◌, Some, length, take}
 use Rattle.devices.specs.Device.{Bytes}
@@ -84,25 +84,25 @@ OfWhole P Beginning = ⊥
 
 -- the lengths at which a beginning of an input is tested: 65536 bytes, and then twice as many each
 -- time
-abbrev pub asked_at : ℕ → ℕ
-asked_at n = 65536 * 2 ^ n
+abbrev pub tested_at : ℕ → ℕ
+tested_at n = 65536 * 2 ^ n
 
 -- the beginning of an input that is tested
-abbrev pub asked_front : ℕ → Bytes → Bytes
-asked_front n input = take (asked_at n) input
+abbrev pub tested_front : ℕ → Bytes → Bytes
+tested_front n input = take (tested_at n) input
 
 module _ (IsNotEnough : Bytes → Type 0) where
   -- no tested beginning is enough
   abbrev pub NoneIsEnough : Bytes → Type 0
-  NoneIsEnough input = (n : ℕ) → asked_at n ≤ length input → IsNotEnough (asked_front n input)
+  NoneIsEnough input = (n : ℕ) → tested_at n ≤ length input → IsNotEnough (tested_front n input)
 
   -- the input is long enough for the n-th test, and no shorter beginning was enough
-  pub record IsAsked (n : ℕ) (input : Bytes) : Type 0 where
-    pub reaches : asked_at n ≤ length input
-    pub none_before : (m : ℕ) → m < n → IsNotEnough (asked_front m input)
+  pub record IsTested (n : ℕ) (input : Bytes) : Type 0 where
+    pub reaches : tested_at n ≤ length input
+    pub none_before : (m : ℕ) → m < n → IsNotEnough (tested_front m input)
 
-  -- the result is that for the whole input; if that was read to its end, no tested beginning was
-  -- enough
+  -- the result is that for the whole input; if the input was read to its end, no tested beginning
+  -- was enough
   pub record IsByWhole (Says : RunFacts → Type 0) (facts : RunFacts) : Type 0 where
     pub none_is_enough : facts.end_was_read ≡ true → NoneIsEnough facts.input
     pub says : Says facts
@@ -111,15 +111,15 @@ module _ (IsNotEnough : Bytes → Type 0) where
   -- bytes after it don't count, and the end wasn't read
   pub record IsByBeginning (Says : RunFacts → Type 0) (facts : RunFacts) : Type 0 where
     pub n : ℕ
-    pub is_asked : IsAsked n facts.input
+    pub is_tested : IsTested n facts.input
     pub unread : facts.end_was_read ≡ false
-    pub says : Says (record facts { input = asked_front n facts.input; end_was_read = true })
+    pub says : Says (record facts { input = tested_front n facts.input; end_was_read = true })
 
   abbrev pub IsByExtent : (Extent → RunFacts → Type 0) → RunFacts → Type 0
   IsByExtent Says facts = IsByWhole (Says Whole) facts ⊎ IsByBeginning (Says Beginning) facts
 
--- a claim about what happened to a source and a sink between two times, if their bytes were known
--- at the first time, and neither had failed
+-- a claim about the changes of a source and a sink between two times, if their bytes were known at
+-- the first time, and neither had failed
 abbrev pub Between : {R W : Type 0} → source.Ghosts R → sink.Ghosts W → R × W → R × W
     → (RunFacts → Type 0) → Type 0
 Between of_source of_sink old new Says =

@@ -1,4 +1,4 @@
--- The contract of a run, by its result.
+-- The contract of `run`, by its result.
 -- Source: this library's own.
 use Rattle.std.specs.Prelude.{◌≡◌, ⊤, Bool, true, false, [], Result, Ok, Err, IfOk}
 use Rattle.devices.specs.Device.{Bytes}
@@ -18,7 +18,7 @@ abbrev pub is_write_fault : {T E : Type 0} → Result T (Stop E) → Bool
 is_write_fault (Err Write) = true
 is_write_fault _ = false
 
--- the reason why a run stopped, if its source wasn't read to its end
+-- the reason why `run` stopped, if its source wasn't read to its end
 abbrev pub stop_of : {E : Type 0} → ReadError → Stop E
 stop_of read.Source = Read
 stop_of read.OutOfMemory = OutOfMemory
@@ -33,8 +33,8 @@ IsRefusalOfSome IsRefusal _ = ⊤
 abbrev pub IsSomeEnough : (Extent → Bytes → Bytes → Type 0) → Type 0
 IsSomeEnough IsOutput = (beginning : Bytes) × (output : Bytes) × IsOutput Beginning beginning output
 
--- the facts of a run, by its result; if the end was read and memory ran out for the input, the
--- input is empty
+-- the facts of a call of `run`, by its result; if the end was read and memory ran out for the
+-- input, the input is empty
 module _ {E : Type 0} (IsNotEnough : Bytes → Type 0)
     (IsOutput : Extent → Bytes → Bytes → Type 0) (IsRefusal : Extent → Bytes → E → Type 0) where
   abbrev pub IsAfterIn : {T : Type 0} → Result T (Stop E) → Extent → RunFacts → Type 0

@@ -1,4 +1,4 @@
--- The values of devices over readers and writers.
+-- The values of sources over readers, and of sinks over writers.
 -- Source: this library's own.
 use Rattle.std.specs.Prelude.{◌≡◌, Bool, true, false, List, ℕ, [], Option, Some, Result, Ok, Err, if◌then◌else◌}
 use Rattle.std.specs.IoError.{error_kind}

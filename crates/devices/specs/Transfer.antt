@@ -1,8 +1,8 @@
--- The results of reading a source, to its end or to its first bytes.
+-- The results of reading a source to its end, or only a beginning of it.
 -- Source: this library's own.
 use Rattle.std.specs.Prelude.{ℕ, ◌≡◌, Bool, true, false, ◌++◌, Option, Some, Result, Err, MatchResult}
 use Rattle.devices.specs.Device.{Bytes}
-use Rattle.devices.specs.Outcome.{Beginning, Extent, IsAsked, NoneIsEnough, Whole, asked_front}
+use Rattle.devices.specs.Outcome.{Beginning, Extent, IsTested, NoneIsEnough, Whole, tested_front}
 use Rattle.devices.specs.declared.transfer.Rendered.{Rendered}
 use Rattle.devices.specs.declared.transfer.ReadError.{ReadError}
 use Rattle.devices.specs.declared.transfer.ReadError.TheVariants.{Source}
@@ -18,7 +18,7 @@ Moves old new had has =
     (input : Bytes) → old ≡ Some input → (left : Bytes) × (new ≡ Some left)
     × (had ++ input ≡ has ++ left)
 
--- the remaining pieces are an output for an input, and the findings are those about it
+-- the remaining pieces are an output for an input, and the findings are those about the input
 abbrev pub IsRenderedBy : {P N : Type 0} → (P → Bytes) → (Extent → Bytes → Bytes → Type 0)
     → (Extent → Bytes → N → Type 0) → Extent → Bytes → Rendered P N → Type 0
 IsRenderedBy rest IsOutput AreFindingsOf extent input rendered =
@@ -41,7 +41,7 @@ module _ {A E : Type 0} (IsNotEnough : Bytes → Type 0) (IsOutput : Extent → 
   IsAnsweredIn Beginning known ended answer =
       (read : Bytes) × IsAnswer IsOutput IsRefusal Beginning read answer
       × ((all : Bytes) → known ≡ Some all
-      → (ended ≡ false) × (n : ℕ) × IsAsked IsNotEnough n all × (read ≡ asked_front n all))
+      → (ended ≡ false) × (n : ℕ) × IsTested IsNotEnough n all × (read ≡ tested_front n all))
 
   abbrev pub IsAnswered : Option Bytes → Bool → Result A E → Type 0
   IsAnswered known ended answer = (extent : Extent) × IsAnsweredIn extent known ended answer

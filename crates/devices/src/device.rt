@@ -1,14 +1,14 @@
-//! Sources of bytes, and sinks for bytes.
+//! Devices: sources and sinks of bytes.
 
 ghost use Rattle.std.specs.Prelude.{◌≡◌, ◌<◌, ◌≤◌, ◌++◌, ◌||◌, List, ℕ, Bool, true, length, take, drop, is_err, IfOk, OnErr, Option, Some, []};
 ghost use Rattle.devices.specs.Device.{is_end};
 
-/// A call of a device failed. A device returns this exactly if it has failed, and then from every
-/// later call.
+/// The only error of a device, which is a source or a sink. If a call of a device returns this
+/// error, the device has failed, and every later call returns it too.
 #[derive(Clone, Copy, Debug, PartialEq, Eq)]
 pub struct DeviceFault;
 
-/// A source of bytes.
+/// A source of bytes, which are read in order.
 pub trait Source {
     // the bytes that are left, if they are known
     ghost remaining: { Self → Option (List ℕ) };
@@ -19,10 +19,10 @@ pub trait Source {
     // true if the end was read: a call with a buffer that isn't empty returned 0
     ghost end_was_read: { Self → Bool };
 
-    /// Writes bytes to the front of the buffer, and returns their number. For a buffer that isn't
-    /// empty, 0 means the end.
+    /// Reads the next bytes of the source into the front of the buffer, and returns their number.
+    /// If the buffer isn't empty, 0 means that the end of the source was read.
     ///
-    /// The only error is that the source has failed. Then every later call fails too.
+    /// The only error is that the source has failed. After it every later call fails too.
     fn read(&mut self, buffer: &mut [u8]) -> Result<usize, DeviceFault>
         ensures bound { IfOk result (λ count. count ≤ length buffer.old) }
         ensures fault { has_failed self.new ≡ is_err result }
@@ -42,7 +42,7 @@ pub trait Source {
         → left ≡ [] };
 }
 
-/// A sink for bytes.
+/// A destination for bytes, which are written in order.
 pub trait Sink {
     // the bytes that the sink has taken, if they are known
     ghost taken: { Self → Option (List ℕ) };
@@ -50,10 +50,10 @@ pub trait Sink {
     // true if the sink has failed
     ghost has_failed: { Self → Bool };
 
-    /// Takes bytes from the front of the piece, and returns their number: at least one if the piece
-    /// isn't empty.
+    /// Writes bytes from the front of the piece, and returns their number, which is at least 1 if
+    /// the piece isn't empty.
     ///
-    /// The only error is that the sink has failed. A failed call takes no byte, and every later
+    /// The only error is that the sink has failed. A failed call writes no byte, and every later
     /// call fails too.
     fn write(&mut self, piece: &[u8]) -> Result<usize, DeviceFault>
         ensures bound { IfOk result (λ count. count ≤ length piece.now) }

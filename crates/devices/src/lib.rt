@@ -1,5 +1,6 @@
-//! Sources and sinks of bytes, over readers, writers and memory. A piece can be written as a whole,
-//! and a run reads a source and writes to a sink. The arguments of a process are here too.
+//! Devices, which are sources and sinks of bytes: over readers, over writers, and in memory.
+//! `write_all` writes a whole piece to a sink. `run` reads a source, and writes the output for it
+//! to a sink. The arguments of a process are here too.
 #![tactic(auto)]
 
 mod device;

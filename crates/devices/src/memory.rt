@@ -1,4 +1,4 @@
-//! Devices over memory. They can be set to fail at a chosen call.
+//! A source and a sink in memory. Both can be set to fail at a chosen call.
 
 ghost use Rattle.std.specs.Prelude.{◌≡◌, ◌||◌, ◌++◌, true, false, Some, [], IfOk, OnOk, OnErr, is_err, is_none, length, min, take, drop};
 ghost use Rattle.devices.specs.Device.{left_in, is_due, after_reading, is_full_for, fitting, after_writing};
@@ -8,7 +8,7 @@ use crate::device::{DeviceFault, Sink, Source};
 use std::alloc::Global;
 use std::marker::Model;
 
-/// A source over bytes. It can be set to fail at a chosen call.
+/// A source of bytes in memory. It can be set to fail at a chosen call of `read`.
 ///
 /// ```
 /// let mut source = MemorySource::new(b"a\tb\n1\t2\n", 0);
@@ -34,8 +34,9 @@ impl<'a> Model for MemorySource<'a> {
 }
 
 impl<'a> MemorySource<'a> {
-    /// A source of these bytes. Each call returns as many as fit the buffer. The call with the
-    /// number `fails_at`, counted from 1, fails; if `fails_at` is 0, no call does.
+    /// Makes a source of these bytes. Each call of `read` returns as many bytes as fit the buffer.
+    /// The call of `read` with the number `fails_at`, counted from 1, fails, and so does every
+    /// later call. If `fails_at` is 0, no call fails.
     pub fn new(bytes: &'a [u8], fails_at: u64) -> MemorySource<'a>
         ensures { result ≡ record { rest = Some bytes.now; fails_at = fails_at; failed = false } }
     {
@@ -85,7 +86,8 @@ impl Source for MemorySource<'_> {
     }
 }
 
-/// A sink in memory with room for a number of bytes. It can be set to fail at a chosen call.
+/// A sink in memory with room for a number of bytes. It can be set to fail at a chosen call of
+/// `write`.
 ///
 /// ```
 /// let mut sink = MemorySink::new(rt.alloc(), 4096, 0)?;
@@ -115,10 +117,13 @@ impl Model for MemorySink {
 }
 
 impl MemorySink {
-    /// An empty sink with room for `room` bytes. Their memory is taken here, so no later call takes
-    /// memory. Each call takes as many bytes of its piece as have room. It fails if the piece isn't
-    /// empty and no room is left. The call with the number `fails_at`, counted from 1, fails too;
-    /// if `fails_at` is 0, no call fails for that reason. The only error is `OutOfMemory`.
+    /// Makes an empty sink with room for `room` bytes. The memory for these bytes is taken here, so
+    /// `write` takes no memory. The only error of `new` is `OutOfMemory`.
+    ///
+    /// Each call of `write` writes as many bytes of its piece as have room. A call fails if its
+    /// piece isn't empty and no room is left. The call of `write` with the number `fails_at`,
+    /// counted from 1, fails too. If `fails_at` is 0, no call fails for that reason. After a
+    /// failure every later call fails.
     pub fn new(alloc: Global, room: usize, fails_at: u64) -> comfy_parts::Result<MemorySink>
         ensures { IfOk result (λ s. s ≡ record {
           bytes = [];
@@ -135,7 +140,7 @@ impl MemorySink {
         })
     }
 
-    /// The bytes that the sink has taken.
+    /// The bytes that were written to the sink, in order.
     pub fn bytes(&self) -> &[u8]
         ensures { result.now ≡ self.now.bytes }
     {

@@ -1,4 +1,4 @@
-//! Devices over readers and writers. They remember a failure of these.
+//! Sources over readers, and sinks over writers. Each stores the failure of its reader or writer.
 
 ghost use Rattle.std.specs.Prelude.{◌≡◌, ◌||◌, ◌↔◌, IfErr, IfOk, None, Ok, Some, is_err, is_some, false, true};
 ghost use Rattle.std.specs.IoError.{error_kind};
@@ -9,7 +9,7 @@ use crate::device::{DeviceFault, Sink, Source};
 use std::io::{self, ErrorKind, Read, Write};
 use std::marker::Model;
 
-/// A source over a reader. Every error of the reader is a failure. Put the reader in
+/// A source that reads from a reader. It fails at the first error of the reader. Put the reader in
 /// `Uninterrupted`, so that calls that a signal interrupts are repeated.
 #[derive(Drop)]
 pub struct FromReader<R> {
@@ -28,7 +28,7 @@ impl<R> Model for FromReader<R> {
 }
 
 impl<R: Read> FromReader<R> {
-    /// A source of the bytes that the reader has left. It takes no memory.
+    /// Makes a source of the bytes that are left in the reader. The call takes no memory.
     pub fn new(reader: R) -> FromReader<R>
         ensures { result ≡ record { reader = reader; fault = None; ended = false } }
     {
@@ -39,23 +39,28 @@ impl<R: Read> FromReader<R> {
         }
     }
 
-    /// The kind of the error with which the reader failed. `None` if it hasn't failed.
+    /// The kind of the error with which the reader failed. `None` if the reader hasn't failed.
     pub fn fault(&self) -> Option<ErrorKind>
         ensures { result ≡ self.now.fault }
     {
         self.fault
     }
 
-    // Stores the reader's result for a buffer of `room` bytes, and returns it as a device does.
-    fn note_result(&mut self, said: io::Result<usize>, room: usize) -> Result<usize, DeviceFault>
-        ensures count { IfOk result (λ count. said ≡ Ok count) }
-        ensures fault { is_err result ≡ is_err said }
+    // Stores whether the reader's result for a buffer of `room` bytes is an error or the end.
+    // Returns the result of the source.
+    fn note_result(
+        &mut self,
+        returned: io::Result<usize>,
+        room: usize,
+    ) -> Result<usize, DeviceFault>
+        ensures count { IfOk result (λ count. returned ≡ Ok count) }
+        ensures fault { is_err result ≡ is_err returned }
         ensures after { self.new ≡ record self.old {
-          fault = fault_after said self.old.fault;
-          ended = self.old.ended || is_end said room;
+          fault = fault_after returned self.old.fault;
+          ended = self.old.ended || is_end returned room;
         } }
     {
-        match said {
+        match returned {
             Ok(count) => {
                 if count == 0 && room > 0 {
                     self.ended = true;
@@ -86,14 +91,14 @@ impl<R: Read> Source for FromReader<R> {
         if self.ended {
             return Ok(0);
         }
-        let said = self.reader.read(buffer);
-        self.note_result(said, buffer.len())
+        let returned = self.reader.read(buffer);
+        self.note_result(returned, buffer.len())
     }
 }
 
-/// A sink over a writer. Every error of the writer is a failure. If the writer takes nothing of a
-/// piece that isn't empty, that is a failure too. Put the writer in `Uninterrupted`, so that calls
-/// that a signal interrupts are repeated.
+/// A sink that writes to a writer. It fails at the first error of the writer, or if the writer
+/// takes no byte of a piece that isn't empty. Put the writer in `Uninterrupted`, so that calls that
+/// a signal interrupts are repeated.
 #[derive(Drop)]
 pub struct ToWriter<W> {
     writer: W,
@@ -111,7 +116,7 @@ impl<W> Model for ToWriter<W> {
 }
 
 impl<W: Write> ToWriter<W> {
-    /// A sink to the writer. It takes no memory.
+    /// Makes a sink that writes to this writer. The call takes no memory.
     pub fn new(writer: W) -> ToWriter<W>
         ensures { result ≡ record { writer = writer; failed = false; fault = None } }
     {
@@ -122,24 +127,29 @@ impl<W: Write> ToWriter<W> {
         }
     }
 
-    /// The kind of the error with which the writer failed. `None` if it hasn't failed, or failed
-    /// without an error.
+    /// The kind of the error with which the writer failed. `None` if the writer hasn't failed, or
+    /// if it failed without an error by taking no byte.
     pub fn fault(&self) -> Option<ErrorKind>
         ensures { result ≡ self.now.fault }
     {
         self.fault
     }
 
-    // Stores the writer's result for a piece of `bytes` bytes, and returns it as a device does.
-    fn note_result(&mut self, said: io::Result<usize>, bytes: usize) -> Result<usize, DeviceFault>
-        ensures count { IfOk result (λ count. said ≡ Ok count) }
-        ensures fault { is_err result ≡ (is_err said || is_end said bytes) }
+    // Stores whether the writer's result for a piece of `bytes` bytes is a failure. Returns the
+    // result of the sink.
+    fn note_result(
+        &mut self,
+        returned: io::Result<usize>,
+        bytes: usize,
+    ) -> Result<usize, DeviceFault>
+        ensures count { IfOk result (λ count. returned ≡ Ok count) }
+        ensures fault { is_err result ≡ (is_err returned || is_end returned bytes) }
         ensures after { self.new ≡ record self.old {
-          failed = self.old.failed || (is_err said || is_end said bytes);
-          fault = fault_after said self.old.fault;
+          failed = self.old.failed || (is_err returned || is_end returned bytes);
+          fault = fault_after returned self.old.fault;
         } }
     {
-        match said {
+        match returned {
             Ok(count) if count > 0 || bytes == 0 => Ok(count),
             Ok(_) => {
                 self.failed = true;
@@ -163,7 +173,7 @@ impl<W: Write> Sink for ToWriter<W> {
         if self.failed {
             return Err(DeviceFault);
         }
-        let said = self.writer.write(piece);
-        self.note_result(said, piece.len())
+        let returned = self.writer.write(piece);
+        self.note_result(returned, piece.len())
     }
 }

@@ -1,4 +1,4 @@
-//! Writes a whole piece to a sink, and runs from a source to a sink.
+//! Writes a whole piece to a sink, or reads a source and writes the output for it to a sink.
 
 ghost use Rattle.std.specs.Prelude.{◌≡◌, ◌<◌, ◌++◌, ◌⊎◌, List, ℕ, [], true, false, Err, Ok, Some, OnOk, OnErr, IfNone, IfOk, IfErr, IfSome, vec_len};
 ghost use Rattle.devices.specs.Outcome.{Between, Extent, IsBeginningOnly};
@@ -14,7 +14,7 @@ use std::alloc::{AllocError, Global};
 // small input.
 const BLOCK: usize = 4096;
 
-// The number of bytes that are read before the first test if they are enough.
+// The number of bytes that are read before `render_beginning` first tests if they are enough.
 const FIRST: usize = 65536;
 
 /// The reason why a source wasn't read to its end.
@@ -22,7 +22,7 @@ const FIRST: usize = 65536;
 pub enum ReadError {
     /// A call of the source failed.
     Source,
-    /// Memory ran out for its bytes.
+    /// Memory ran out for the bytes of the source.
     OutOfMemory,
 }
 
@@ -34,7 +34,7 @@ impl From<AllocError> for ReadError {
     }
 }
 
-/// The reason why a run stopped.
+/// The error of `run`: the reason why it stopped before a whole output was written.
 #[derive(Debug, Drop)]
 pub enum Stop<E> {
     /// A call of the source failed.
@@ -43,9 +43,11 @@ pub enum Stop<E> {
     Write,
     /// Memory ran out for the input.
     OutOfMemory,
-    /// Memory ran out for a piece of the output, so only a part of the output was written.
+    /// Memory ran out for a piece of the output, so only a beginning of the output was written,
+    /// perhaps no byte.
     Unfinished,
-    /// The input has no output. It was read as a whole, or its beginning was enough to refuse it.
+    /// The input has no output, for the reason in this variant. The input was read as a whole, or
+    /// its beginning was enough to refuse it.
     Refused(E),
 }
 
@@ -60,22 +62,24 @@ impl<E> From<ReadError> for Stop<E> {
     }
 }
 
-/// An output, and the findings about its input.
+/// An output for an input, and the findings: facts about the input that aren't a part of the
+/// output, such as records with too many fields.
 #[derive(Drop)]
 pub struct Rendered<P, N> {
     /// The text that is to be written, in pieces.
     pub pieces: P,
-    /// The findings about the input.
+    /// The facts that were found about the input, besides the output.
     pub findings: N,
 }
 
-/// Makes the output for an input: a drawing, or any other text.
+/// A way to make the output for an input. The output is a drawing, or any other text.
 pub trait Render {
     /// The reason why an input has no output.
     type Error: Drop;
     /// The text that is to be written, in pieces.
     type Output: Pieces + Drop;
-    /// The findings about an input that has an output.
+    /// Facts about an input that are returned besides its output, such as records with too many
+    /// fields. The type is `()` if there are none.
     type Findings: Drop;
 
     // true if the beginning of an input isn't enough for an output, so that more has to be read
@@ -84,14 +88,14 @@ pub trait Render {
     // true if these bytes are an output for a whole input, or for a beginning that is enough
     ghost is_output: { Self → Extent → List ℕ → List ℕ → Type 0 };
 
-    // true if these are the findings about such an input
+    // true if these are the findings about a whole input, or about a beginning that is enough
     ghost are_findings: { Self → Extent → List ℕ → Self.Findings → Type 0 };
 
-    // true if this is the reason why such an input has no output
+    // true if this is the reason why a whole input, or a beginning that is enough, has no output
     ghost is_refusal: { Self → Extent → List ℕ → Self.Error → Type 0 };
 
-    /// Makes the output for an input that was read as a whole. The error is the reason why it has
-    /// none.
+    /// Makes the output for an input that was read as a whole. An error is the reason why the input
+    /// has no output.
     fn render(
         &self,
         alloc: Global,
@@ -101,8 +105,9 @@ pub trait Render {
             (IsRenderedBy Self.Output.rest (is_output self.now) (are_findings self.now))
             (is_refusal self.now) Extent.Whole input.items result };
 
-    /// Makes the output for an input from its beginning, after which more bytes may follow. `None`
-    /// if the beginning isn't enough, and more bytes have to be read.
+    /// Makes the output for an input from its beginning, after which more bytes may follow. The
+    /// result is `None` if the beginning isn't enough, and more bytes have to be read. An error is
+    /// the reason why the input has no output.
     fn render_beginning(
         &self,
         alloc: Global,
@@ -114,8 +119,8 @@ pub trait Render {
         ensures none { IfNone result (is_not_enough self.now read.now) };
 }
 
-// Appends bytes of the source until there are `len`, or to its end. Returns true if the end was
-// read.
+// Appends bytes of the source until `bytes` has `len` bytes, or until the end of the source was
+// read. Returns true if the end was read.
 fn read_up_to<R: Source>(source: &mut R, bytes: &mut Vec<u8>, len: usize) -> Result<bool, ReadError>
     requires { vec_len bytes.old < len }
     ensures fault { R.has_failed source.new ≡ is_source_fault result }
@@ -144,8 +149,8 @@ fn read_up_to<R: Source>(source: &mut R, bytes: &mut Vec<u8>, len: usize) -> Res
     }
 }
 
-/// Writes the whole piece. The only error is that the sink fails. Then a beginning of the piece was
-/// written, perhaps no byte, but not all of the piece.
+/// Writes the whole piece. The only error is that the sink fails. After the error a beginning of
+/// the piece was written, perhaps no byte, but not all of the piece.
 pub fn write_all<W: Sink>(sink: &mut W, piece: &[u8]) -> Result<(), DeviceFault>
     ensures written { OnOk result ((had : List ℕ) → W.taken sink.old ≡ Some had
         → W.taken sink.new ≡ Some (had ++ piece.now)) }
@@ -165,21 +170,22 @@ pub fn write_all<W: Sink>(sink: &mut W, piece: &[u8]) -> Result<(), DeviceFault>
     Ok(())
 }
 
-/// Reads the source, and writes the output for it to the sink. Returns the findings about the
-/// input.
+/// Reads the source, and writes to the sink the output that `drawing` makes for the bytes that were
+/// read. Returns the findings about these bytes, as `drawing` made them.
 ///
-/// The source is read as a whole, or until its beginning is enough. This is tested at 65536 bytes,
-/// at twice as many, and so on. So the result doesn't depend on the sizes in which the source
-/// returns its bytes. Each piece of the output is written when it comes.
+/// The source is read to its end, or until `render_beginning` makes an output or refuses the input.
+/// The beginning is tested after 65536 bytes, after twice as many bytes, and so on. So the result
+/// doesn't depend on how many bytes each call of the source returns. Each piece of the output is
+/// written before the next piece is made.
 ///
 /// # Errors
 ///
-/// After `Read` the source has failed and the sink hasn't. After `Write` the sink has failed and
-/// the source hasn't. After every other result neither has.
+/// The source has failed exactly if the error is `Read`. If the sink hadn't failed before the call,
+/// it has failed exactly if the error is `Write`.
 ///
 /// After `Write` and `Unfinished` a beginning of the output was written, perhaps no byte, but not
-/// all of the output. After every other error nothing was written. `Unfinished` can't come if
-/// outputs are in memory as a whole.
+/// all of the output. After every other error nothing was written. `Unfinished` is never returned
+/// if whole outputs are in memory, as they are in an `Option<String>`.
 pub fn run<R: Source, W: Sink, D: Render>(
     alloc: Global,
     source: &mut R,
@@ -218,7 +224,8 @@ pub fn run<R: Source, W: Sink, D: Render>(
     }
 }
 
-// The result for all bytes that the source has left, or for a beginning that is enough.
+// The result of `render` for all bytes that are left in the source, or of `render_beginning` for a
+// beginning that is enough.
 fn read_answer<R: Source, D: Render>(
     alloc: Global,
     source: &mut R,

@@ -6,19 +6,19 @@ ghost use Rattle.std.specs.Io.KnownBytes.{ReadConsumes, WriteAppends};
 
 use std::io::{self, ErrorKind, Read, Write};
 
-// The number of tries for a call.
+// The greatest number of tries for a call, with the first one.
 const TRIES: u32 = 1000;
 
-/// A reader or a writer. If a signal interrupts a call, which then has read or written nothing, the
-/// call is made again, up to 1000 times in all. After that the interruption is an error like any
-/// other.
+/// A reader or writer that repeats interrupted calls. If a signal interrupts a call of `read` or
+/// `write`, which then has read or written nothing, the call is made again, up to 1000 times in
+/// all. After that the interruption is returned as an error. Calls of `flush` aren't repeated.
 #[derive(Drop)]
 pub struct Uninterrupted<S> {
     stream: S,
 }
 
 impl<S> Uninterrupted<S> {
-    /// Repeats the interrupted calls of this reader or writer.
+    /// Makes a reader or writer that repeats the interrupted calls of `stream`.
     pub fn new(stream: S) -> Uninterrupted<S>
         ensures { result.stream ≡ stream }
     {
@@ -46,7 +46,7 @@ impl<W: Write> Write for Uninterrupted<W> {
     }
 }
 
-// Reads once. An interrupted call is made again.
+// Reads once. An interrupted call is repeated, so there are at most `TRIES` calls.
 fn read_again<R: Read>(reader: &mut R, buffer: &mut [u8]) -> io::Result<usize>
     ensures bound { ReadsAtMost result buffer.new }
     ensures bytes { ReadConsumes (R.remaining reader.old) (R.remaining reader.new) result
@@ -55,13 +55,13 @@ fn read_again<R: Read>(reader: &mut R, buffer: &mut [u8]) -> io::Result<usize>
     for _ in 1..TRIES {
         match reader.read(buffer) {
             Err(error) if error.kind() == ErrorKind::Interrupted => {}
-            said => return said,
+            returned => return returned,
         }
     }
     reader.read(buffer)
 }
 
-// Writes once. An interrupted call is made again.
+// Writes once. An interrupted call is repeated, so there are at most `TRIES` calls.
 fn write_again<W: Write>(writer: &mut W, piece: &[u8]) -> io::Result<usize>
     ensures bound { WritesAtMost result piece.now }
     ensures bytes { WriteAppends (W.contents writer.old) (W.contents writer.new) result piece.now }

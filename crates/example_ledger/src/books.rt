@@ -1,4 +1,4 @@
-//! Widths: a table of three scripts at a width of 44.
+//! A table of books in three scripts, at a width of 44 terminal columns.
 
 use comfy_table::{ColumnConstraint, ContentArrangement, Result, Table, Width};
 
@@ -8,8 +8,9 @@ const BOOKS: &[[&str; 4]] = &[
     ["C", "Кобзар", "260", "songs of a kobza player"],
 ];
 
-/// Prints the table twice: with columns that share the room, and with constraints, one of which
-/// hides a column. Its right edge is straight in terminal columns: a Chinese character takes two.
+/// Fills the empty table `books`, and prints it twice. First its columns share the width. Then
+/// columns have constraints, one of which hides a column. The right edge is straight in terminal
+/// columns, although a Chinese character takes two.
 pub fn print_books(rt: &HostRuntime, books: &mut Table) -> anyhow::Result<()> {
     fill(books)?;
     println!(rt; "{}", books.to_text()?)?;

@@ -9,7 +9,7 @@ use comfy_table::presets::UTF8_FULL;
 use comfy_table::{CellAlignment, ContentArrangement, Result, Table};
 use std::alloc::Global;
 
-// Day, payee, purpose and cents.
+// An entry of the ledger: day, payee, purpose and cents.
 type Entry = (&'static str, &'static str, &'static str, u64);
 
 const ENTRIES: [Entry; 4] = [

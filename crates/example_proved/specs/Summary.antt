@@ -27,8 +27,8 @@ summary_table w measurements = table_of utf8_full Dynamic (Some w) heading (map 
 abbrev pub HasPlainName : Measurement → Type 0
 HasPlainName one = is_printable_ascii (string_bytes one.name) ≡ true
 
--- all lines are equally wide, none is wider than a width of at least 13, and all texts
--- are shown
+-- all lines are equally wide, and none is wider than a width of at least 13, if names are printable
+-- ASCII; all texts are shown
 pub record IsSummary (measurements : List Measurement) (w : ℕ) (lines : List Text) : Type 0 where
   pub equally_wide : All HasPlainName measurements → AreEquallyWide lines
   pub fits : 13 ≤ w → All HasPlainName measurements → All (λ line. measure line ≤ w) lines

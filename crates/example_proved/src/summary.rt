@@ -12,7 +12,8 @@ use promises::laws::{
 };
 use std::alloc::Global;
 
-/// A measurement: the duration of a run, and the number of runs.
+/// A measurement of a benchmark: its name, the duration of a run in nanoseconds, and the number of
+/// runs.
 #[derive(Drop)]
 pub struct Measurement {
     pub name: String,
@@ -20,7 +21,7 @@ pub struct Measurement {
     pub runs: u64,
 }
 
-// this makes a row of a measurement
+// with this implementation, `add_rows` makes a row of each measurement
 impl IntoCells for Measurement {
     ghost cells_of = { λ one.
         plain_cell (string_bytes one.name) ∷ number_cell one.nanos ∷ number_cell one.runs ∷ [] };
@@ -30,7 +31,8 @@ impl IntoCells for Measurement {
     }
 }
 
-/// The lines of a table of measurements, within a width.
+/// Returns the lines of a table of measurements, within a width in terminal columns. The contract
+/// says when the lines keep to the width. The only error is `OutOfMemory`.
 pub fn summary(alloc: Global, measurements: Vec<Measurement>, width: u16) -> Result<Lines>
     ensures { IfOk result (λ lines. IsSummary measurements.items width lines) }
 {
@@ -42,7 +44,7 @@ pub fn summary(alloc: Global, measurements: Vec<Measurement>, width: u16) -> Res
     table.lines()
 }
 
-// a separate function, whose clause names the table
+// a separate function, because its clause names the table
 fn table_for(alloc: Global, measurements: Vec<Measurement>, width: u16) -> Result<Table>
     ensures { IfOk result (λ table. table ≡ summary_table width measurements.items) }
 {

@@ -73,7 +73,8 @@ fn print(rt: &HostRuntime, table: &Table) -> anyhow::Result<()> {
     Ok(())
 }
 
-// the facts about the terminal; colours are written if standard output is one
+// the facts about the terminal; colours are written if standard output is a terminal and NO_COLOR
+// isn't set
 fn terminal(rt: &HostRuntime) -> Terminal {
     let columns = env::var(rt, "COLUMNS").ok();
     Terminal {

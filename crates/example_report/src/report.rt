@@ -12,7 +12,8 @@ pub struct Test {
     pub failure: Option<&'static str>,
 }
 
-/// Fills a new table with the report of these tests.
+/// Fills a new table with a header, a row for each test, and a last row with the sums. The only
+/// error is `OutOfMemory`.
 pub fn fill(report: &mut Table, alloc: Global, tests: &[Test]) -> Result<()> {
     report
         .load_style(UTF8_FULL_CONDENSED)
@@ -30,7 +31,8 @@ pub fn fill(report: &mut Table, alloc: Global, tests: &[Test]) -> Result<()> {
     Ok(())
 }
 
-// the number of tests, whether all passed, their total time, and the number of failures
+// the last row: the number of tests, PASS if all tests passed, the total time, and the number of
+// failures
 fn sums(alloc: Global, tests: &[Test]) -> Result<Row> {
     let mut millis: u64 = 0;
     let mut failed: usize = 0;
@@ -45,7 +47,7 @@ fn sums(alloc: Global, tests: &[Test]) -> Result<Row> {
     row(alloc, &name, failed == 0, millis, &message)
 }
 
-// a message has at most three lines
+// a row of the report, which has at most three lines
 fn row(alloc: Global, name: &str, is_pass: bool, millis: u64, message: &str) -> Result<Row> {
     let time = format!(in alloc; "{}.{:03} s", millis / 1000, millis % 1000)?;
     let mut row = (name, result(alloc, is_pass)?, time, message).into_row(alloc)?;

@@ -100,17 +100,17 @@ unconstrained table free = placed (λ (column : ColumnValue). not (is_hidden_col
 abbrev pub TextsStay : TableValue → Type 1
 TextsStay table = (P : Text → Type 0) → EachText P table → laws.EachShownText P table
 
--- this is so if texts aren't searched for sequences
+-- the property holds of the measured texts if `custom_styling` is off
 pub plain_stay : (table : TableValue) → table.custom_styling ≡ false → TextsStay table
 plain_stay table plain P each = shown_of_all P table (subst (All (λ (row : RowValue). All (λ (cell : CellValue). All P cell.text_lines) row.cells)) (sym (measured_plain table plain)) each)
 
--- this is so if shown texts have no control characters
+-- the property holds of the measured texts if shown texts have no control characters
 pub free_stay : (table : TableValue) → EachShownText HasNoControl table → TextsStay table
 free_stay table free P each =
     measured_shown (λ (text : Text). P text × HasNoControl text) P table (λ text own. (own.0, subst P (sym (visible_clear text own.1)) own.0)) (shown_both P HasNoControl table each free)
 
 module _ (table : TableValue) (frame : HasPlainFrame table) where
-  apart : straight.TextsStandApart table
+  apart : straight.TextsAreApart table
   apart = inr (inl (placed (λ (column : ColumnValue). not (is_hidden_column column)) (λ column. 1 ≤ column.padding.0) 0 table.columns frame.paddings))
 
   delimiters : (widths : List ℕ) → length widths ≡ length table.columns → All (λ (p : ℕ × ColumnInfo). IsOneColumn p.1.delimiter) (shown_infos (infos_of table widths))

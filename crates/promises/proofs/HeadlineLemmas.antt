@@ -77,7 +77,7 @@ all_lines w d scalar [] utf8 = tt
 all_lines w d scalar (text ∷ texts) utf8 =
     (line_lines w d scalar text (All-head IsUtf8 text texts utf8), all_lines w d scalar texts (All-tail IsUtf8 text texts utf8))
 
--- they are the lines of the cell, one text line after another
+-- these lists joined are the lines of the cell, one text line after another
 flat : (f : Text → List Text) (texts : List Text) → flat_map f texts ≡ flat_map (λ (of_text : List Text). of_text) (map f texts)
 flat f [] = refl
 flat f (text ∷ texts) = ap (λ (lines : List Text). f text ++ lines) (flat f texts)

@@ -241,10 +241,10 @@ module _ (table : TableValue) (lines : List Text) (drawn : IsTableDrawing table 
   its_lines =
       subst (λ (t : TableValue). EachShownCell (λ row p cell. AreLinesOfCell (width_at p.0) (cell_delimiter t p.1.delimiter cell) cell (lines_at p cell)) t) (measured-plain table plain) is.is_plain.framed.are_cell_lines
 
-  pub all_texts_stand : AreShown (ShowsRow table) table lines
-  all_texts_stand = all_shown table width_at lines_at plain its_lines lines is.frame
+  pub all_texts_are_there : AreShown (ShowsRow table) table lines
+  all_texts_are_there = all_shown table width_at lines_at plain its_lines lines is.frame
 
-  pub whole_texts_stand : table.arrangement ≡ Disabled → IsShownWhole table → AreShown (ShowsWholeRow table) table lines
-  whole_texts_stand disabled whole =
+  pub whole_texts_are_there : table.arrangement ≡ Disabled → IsShownWhole table → AreShown (ShowsWholeRow table) table lines
+  whole_texts_are_there disabled whole =
       whole_shown table width_at lines_at plain its_lines
       (subst (λ (t : TableValue). All (λ (p : ℕ × ColumnValue). p.1.constraint ≡ None → width_at p.0 ≡ widest t p.0) (shown_columns t)) (measured-plain table plain) (is.is_plain.by_content (inl disabled))) whole lines is.frame

@@ -29,8 +29,8 @@ standing {A} test all n [] same =
     All-nil (λ (p : ℕ × A). (slice_get all p.0 ≡ Some p.1) × (test p.1 ≡ true))
 standing {A} test all n (x ∷ xs) same = by_test (test x) refl (standing test all (n + 1) xs next)
   where
-    Stands : ℕ × A → Type 0
-    Stands p = (slice_get all p.0 ≡ Some p.1) × (test p.1 ≡ true)
+    IsPlaced : ℕ × A → Type 0
+    IsPlaced p = (slice_get all p.0 ≡ Some p.1) × (test p.1 ≡ true)
 
     later : List (ℕ × A)
     later = filter (λ (p : ℕ × A). test p.1) (enumerate_from (n + 1) xs)
@@ -41,9 +41,9 @@ standing {A} test all n (x ∷ xs) same = by_test (test x) refl (standing test a
     here : slice_get all n ≡ Some x
     here = let at : n ≡ n + 0 = omega arith in ap (slice_get all) at ∙ same 0
 
-    by_test : (b : Bool) → test x ≡ b → All Stands later
-        → All Stands (cond b ((n, x) ∷ later) later)
-    by_test true passes rest = All-cons Stands (n, x) later (here, passes) rest
+    by_test : (b : Bool) → test x ≡ b → All IsPlaced later
+        → All IsPlaced (cond b ((n, x) ∷ later) later)
+    by_test true passes rest = All-cons IsPlaced (n, x) later (here, passes) rest
     by_test false passes rest = rest
 
 -- ---- rows as they are measured

@@ -8,7 +8,7 @@ use Rattle.comfy_table.specs.TableValue.{TableValue}
 use Rattle.promises.proofs.FittingLemmas.{as_returned, equally_wide, free_stay, narrow, plain_stay, shown_equally_wide, whole}
 use Rattle.promises.proofs.FrameLemmas.{fitting_within, over}
 use Rattle.promises.proofs.HeadlineLemmas.{columns_are, headline}
-use Rattle.promises.proofs.KeptLemmas.{all_texts_stand, whole_texts_stand}
+use Rattle.promises.proofs.KeptLemmas.{all_texts_are_there, whole_texts_are_there}
 use Rattle.promises.proofs.PlacedLemmas.{measured_plain}
 use Rattle.promises.proofs.ShownLemmas.{harmless}
 use Rattle.promises.specs.Promises.{KeepsPromises}
@@ -30,7 +30,7 @@ keeps_promises table lines drawn =
         columns_are table arranged is lines drawn,
         λ w width dynamic plain frame free each. fitting_within table w lines drawn plain free (as_returned table frame plain.no_sequences arranged is lines drawn each) dynamic width,
       );
-      all_texts = all_texts_stand table lines drawn;
-      whole_texts = whole_texts_stand table lines drawn;
+      all_texts = all_texts_are_there table lines drawn;
+      whole_texts = whole_texts_are_there table lines drawn;
       harmless = harmless table (text_of lines) (lines, drawn, refl);
     }

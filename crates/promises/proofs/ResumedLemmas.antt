@@ -23,7 +23,7 @@ module _ (w d : ℕ) where
   are_in : (all earlier text_lines : List Text) → all ≡ earlier ++ text_lines → AllZip (IsIn all) (line_starts_past w d earlier text_lines) (line_texts_past w d earlier text_lines)
   are_in all earlier [] is = tt
   are_in all earlier (text ∷ more) is =
-      AllZip-append (IsIn all) _ _ (line_texts_of_text w d earlier text) (line_texts_past w d (earlier ++ text ∷ []) more) (each_slice w d (IsIn all) earlier text (λ start line stands. (more, is)))
+      AllZip-append (IsIn all) _ _ (line_texts_of_text w d earlier text) (line_texts_past w d (earlier ++ text ∷ []) more) (each_slice w d (IsIn all) earlier text (λ start line is_at. (more, is)))
       (are_in all (earlier ++ text ∷ []) more (is ∙ sym (append_assoc earlier (text ∷ []) more)))
 
   -- ---- their order
@@ -67,12 +67,12 @@ module _ (w d : ℕ) where
         by_test : ((k l : ℕ) → Fits k l (at + 1 + skip) → AreInOrder k l (map (start_at earlier text) (starts_past w d (at + 1) skip more) ++ rest) (map (line_at earlier text) (zip (starts_past w d (at + 1) skip more) (lines_past w d skip more)) ++ lines)) → (t : Bool) → begins_with d (b ∷ more) ≡ t
             → AreInOrder n m (map (start_at earlier text) ((if t then [] else at ∷ []) ++ starts_past w d (at + 1) skip more) ++ rest)
             (map (line_at earlier text) (zip ((if t then [] else at ∷ []) ++ starts_past w d (at + 1) skip more) ((if t then [] else line ∷ []) ++ lines_past w d skip more)) ++ lines)
-        by_test behind true is = behind n m (moved n m (at + 0) (at + 1 + skip) (omega arith) fits)
-        by_test behind false is =
+        by_test after true is = after n m (moved n m (at + 0) (at + 1 + skip) (omega arith) fits)
+        by_test after false is =
             let end : part_end w d (b ∷ more) ≡ line_end w d (b ∷ more) = ap (λ (t : Bool). if t then length (encode_utf8 d) else line_end w d (b ∷ more)) is in
             let long = length-take (line_end w d (b ∷ more)) (b ∷ more) in (
               moved n m (at + 0) at (omega arith) fits,
-              behind (length earlier) (at + length line) (inr (refl, omega (arith, end, long))),
+              after (length earlier) (at + length line) (inr (refl, omega (arith, end, long))),
             )
 
     of_text : AreLater → (n m : ℕ) → Fits n m 0 → AreInOrder n m (map (start_at earlier text) (starts_of_text w d (visible_text text)) ++ rest) (line_texts_of_text w d earlier text ++ lines)
@@ -89,8 +89,8 @@ module _ (w d : ℕ) where
   in_order : (earlier text_lines : List Text) (n m : ℕ) → (n < length earlier) ⊎ ((n ≡ length earlier) × (m ≤ 0)) → AreInOrder n m (line_starts_past w d earlier text_lines) (line_texts_past w d earlier text_lines)
   in_order earlier [] n m fits = tt
   in_order earlier (text ∷ more) n m fits =
-      let behind = earlier ++ text ∷ [] in
-      of_text earlier text (line_starts_past w d behind more) (line_texts_past w d behind more) (λ k l within. in_order behind more k l (inl (omega (arith, within, length-append earlier (text ∷ []))))) n m fits
+      let after = earlier ++ text ∷ [] in
+      of_text earlier text (line_starts_past w d after more) (line_texts_past w d after more) (λ k l within. in_order after more k l (inl (omega (arith, within, length-append earlier (text ∷ []))))) n m fits
 
   -- ---- the lines of a cell
 
@@ -99,7 +99,7 @@ module _ (w d : ℕ) where
   all_resume cell [] (line ∷ lines) inside resumed visible = absurd inside
   all_resume cell (from ∷ starts) [] inside resumed visible = absurd inside
   all_resume cell (from ∷ starts) (line ∷ lines) inside resumed visible = (
-    record { later = inside.0.0; in_cell = inside.0.1; part = resumed.0.stands; visible = visible.0; resumed = resumed.0.resumed },
+    record { later = inside.0.0; in_cell = inside.0.1; part = resumed.0.is_at; visible = visible.0; resumed = resumed.0.resumed },
     all_resume cell starts lines inside.1 resumed.1 visible.1,
   )
 

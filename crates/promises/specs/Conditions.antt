@@ -16,7 +16,8 @@ pub record IsNewColumn (column : ColumnValue) : Type 0 where
   pub no_constraint : column.constraint ≡ None
   pub no_delimiter : column.delimiter ≡ None
 
--- paddings, delimiters and indicator are those of a new table
+-- columns, delimiters and indicator are those of a new table, and each character of the style adds
+-- one terminal column
 pub record HasNewFrame (table : TableValue) : Type 0 where
   pub style : IsOneColumnStyle table.style
   pub delimiter : table.delimiter ≡ None

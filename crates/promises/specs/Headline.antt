@@ -56,8 +56,8 @@ abbrev pub AreSpaces : Bool → ℕ → Text → Type 0
 AreSpaces true n text = IsStyled (spaces n) text
 AreSpaces false n text = text ≡ spaces n
 
--- a line between spaces, which are at least the column's paddings. The piece is as wide as the
--- column, unless the line is wider, and the line is at this side of it.
+-- a piece: a line between spaces, which are at least the column's paddings. The piece is as wide as
+-- the column, unless the line is wider. The line is at this side of the column.
 pub record IsPiece (styles : Bool) (side : CellAlignment) (column : ColumnValue) (w : ℕ)
     (line piece : Text) : Type 0 where
   pub left : ℕ
@@ -77,11 +77,11 @@ abbrev pub widths_shown : TableValue → (ℕ → ℕ) → List ℕ
 widths_shown table width =
     map (λ (p : ℕ × ColumnValue). whole_width p.1 (width p.0)) (shown_columns table)
 
--- a frame line over these columns, if one of its characters is set
+-- a frame line over columns of these widths, if one of its characters is set
 abbrev pub framed : TableValue → (ℕ → ℕ) → LineStyle → List Text
 framed table width line = optional_frame_line table.style line (widths_shown table width)
 
--- the side at which a cell is drawn in a column, or a missing one
+-- the side of a column at which a cell or a missing cell is drawn
 abbrev pub side_in : Option CellValue → ColumnValue → CellAlignment
 side_in None column = unwrap_or column.alignment Left
 side_in (Some cell) column = unwrap_or cell.alignment (unwrap_or column.alignment Left)
@@ -180,7 +180,7 @@ module _ (table : TableValue) (width : ℕ → ℕ)
   AreLinesOfRow borders row lines =
       AreLinesOfParts false table row width (lines_in row) borders lines
 
-  -- the lines of a row; without custom styling their pieces are these lines
+  -- the lines of a row; without custom styling they consist of the cells' lines
   pub record AreContentLines (borders : ContentLineStyle) (row : RowValue) (lines : List Text)
       : Type 0 where
     pub written : AreWrittenLines table borders row lines
@@ -232,8 +232,8 @@ HasLinesWithin table p w n =
     → AreLinesOfCell w (cell_delimiter table p.1.delimiter cell) cell lines
     → All (λ line. measure line ≤ n) lines) (header_and_rows table)
 
--- a column whose widest text is at most the level is as wide as this text. Any other is at least as
--- wide as the level, or has room for its lines at a width of at least the level.
+-- a column whose widest text is at most the level is as wide as this text. Any other column is at
+-- least as wide as the level, or has room for its lines at a width of at least the level.
 pub record KeepsToLevel (table : TableValue) (width : ℕ → ℕ) (level : ℕ) (p : ℕ × ColumnValue)
     : Type 0 where
   pub narrow : widest table p.0 ≤ level
@@ -252,19 +252,20 @@ pub record IsFramedDrawing (table : TableValue) (lines : List Text) : Type 0 whe
 -- the lines of a table without styles, and the widths of its columns
 pub record IsPlainDrawing (table : TableValue) (lines : List Text) : Type 0 where
   pub framed : IsFramedDrawing table lines
-  -- if no width is kept, a column is as wide as its widest text
+  -- if the table keeps to no width, a column without a constraint is as wide as its widest text
   pub by_content : (table.arrangement ≡ Disabled) ⊎ (table_width table ≡ None)
       → All (λ (p : ℕ × ColumnValue). p.1.constraint ≡ None → framed.width p.0 ≡ widest table p.0)
       (shown_columns table)
-  -- if a width is kept that has room for all texts, each column is that wide too, or wider under
-  -- `DynamicFullWidth`
+  -- if the table keeps to a width that has room for all texts, each column is as wide as its widest
+  -- text too, or wider under `DynamicFullWidth`
   pub keeps_contents : (w : ℕ) → table_width table ≡ Some w → NoConstraints table
       → table.arrangement ≢ Disabled
       → border_count table.style (length (shown_columns table))
       + sum (widths_shown table (widest table)) ≤ w
       → All (λ (p : ℕ × ColumnValue). IsAsWide (is_full_width table.arrangement)
       (widest table p.0) (framed.width p.0)) (shown_columns table)
-  -- if a width is kept, columns keep to a level, which is at least an even share of the room
+  -- if the table keeps to a width, columns keep to a level, which is at least an even share of the
+  -- room
   pub keeps_to_level : (w : ℕ) → table_width table ≡ Some w → NoConstraints table
       → table.arrangement ≢ Disabled
       → (level : ℕ) × (room_for_texts table w / length (shown_columns table) ≤ level)
@@ -274,8 +275,8 @@ pub record IsPlainDrawing (table : TableValue) (lines : List Text) : Type 0 wher
   pub frame_total : (line : LineStyle)
       → count (frame_line table.style line (widths_shown table framed.width))
       ≡ total
-  -- lines of printable ASCII have as many, if each indicator that is written adds one terminal
-  -- column for each of its characters
+  -- all lines have as many characters as frame lines, if the table is printable ASCII and each
+  -- indicator that is written adds one terminal column for each of its characters
   pub plain_total : IsPrintable table
       → EachShownCell (λ row p cell. (h : ℕ) → row.max_height ≡ Some h
       → h < length (framed.cell_lines p cell)
@@ -307,9 +308,9 @@ pub record IsUncoloured (cell : CellValue) : Type 0 where
   pub no_background : cell.background ≡ None
   pub no_attributes : cell.attributes ≡ []
 
--- the lines are those of the table as it is measured, except for SGR sequences. These are in
--- pieces, if styles are written, or in texts. With custom styling a text is measured by its visible
--- text.
+-- the lines are those of the table as it is measured, except for SGR sequences. The sequences are
+-- in pieces, if styles are written, or in texts. With custom styling a text is measured by its
+-- visible text.
 pub record IsHeadline (table : TableValue) (lines : List Text) : Type 0 where
   pub plain : List Text
   pub is_plain : IsPlainDrawing (measured_table table) plain
@@ -324,7 +325,7 @@ pub record IsHeadline (table : TableValue) (lines : List Text) : Type 0 where
   pub closed : table.custom_styling ≡ true → HasSequencesInTextsAlone table
       → All LeavesNoneOpen lines
 
--- these are the columns with the widths of the drawing
+-- `columns` are the columns of the table, with the widths of the drawing
 abbrev pub AreColumnsOf : TableValue → List Text → List ColumnInfo → Type 0
 AreColumnsOf table lines columns =
     (drawing : IsHeadline table lines)

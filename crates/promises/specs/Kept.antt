@@ -20,8 +20,8 @@ AreSlicesOf d text slices =
 -- `width` has the widths of the columns
 module _ (table : TableValue) (width : ℕ → ℕ) where
   -- the lines show a row: each shown cell has its slices in its column, one in each line, between
-  -- borders and spaces. If no height cuts the row, they are the slices of the cell's text lines,
-  -- from top to bottom. A missing cell is blank.
+  -- borders and spaces. If the row has no greatest height, the slices are those of the cell's text
+  -- lines, from top to bottom. A missing cell is blank.
   pub record ShowsRow (borders : ContentLineStyle) (row : RowValue) (lines : List Text)
       : Type 0 where
     pub slices : ℕ × ColumnValue → List Text
@@ -52,7 +52,7 @@ AreShown Shows table lines = (width : ℕ → ℕ) × IsFramedBy (Shows width) t
 abbrev pub ShowAllTexts : TableValue → List Text → Type 0
 ShowAllTexts table lines = table.custom_styling ≡ false → AreShown (ShowsRow table) table lines
 
--- all texts are in the lines unchanged, if no width is kept
+-- all texts are in the lines unchanged, if the table is `Disabled` and as wide as its texts
 abbrev pub ShowWholeTexts : TableValue → List Text → Type 0
 ShowWholeTexts table lines =
     table.custom_styling ≡ false → table.arrangement ≡ Disabled → IsShownWhole table

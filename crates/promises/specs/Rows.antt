@@ -34,10 +34,11 @@ HaveCells n rows = All (λ (row : RowValue). length row.cells ≤ n) rows
 
 -- ---- promises
 
--- The promises on the lines of such a table. They are equally wide, if each character fits one
--- terminal column, or if the table is as wide as its texts. They keep to a width, or fill it, if it
--- has room for borders, paddings and one terminal column for each of n columns. All texts are in
--- them, each in its row and column, and unchanged if the table is as wide as its texts.
+-- The promises on the lines of a new table with a header and rows. The lines are equally wide, if
+-- each character fits one terminal column, or if the table is as wide as its texts. They keep to a
+-- width, or fill a width that has room for borders, paddings and one terminal column for each of n
+-- columns. All texts are in the lines, each in its row and column, and unchanged if the table is as
+-- wide as its texts.
 pub record KeepsRows (style : TableStyle) (arrangement : ContentArrangement) (width : Option ℕ)
     (header : RowValue) (rows : List RowValue) (lines : List Text) : Type 0 where
   pub straight : All IsNarrowRow (header ∷ rows) → AreEquallyWide lines

@@ -11,7 +11,7 @@ use Rattle.comfy_table.specs.TableValue.{TableValue}
 use Rattle.promises.specs.Tables.{EachShownText}
 
 -- a text, and the text that it shows: without its SGR sequences, which set colours and attributes.
--- ESC is only at the beginning of these.
+-- ESC is only at the beginning of such a sequence.
 pub data Shows : Text → Text → Type 0 where
   nothing : Shows [] []
   byte : (b : ℕ) (text shown : Text) → (b == 0x1B) ≡ false

@@ -23,15 +23,15 @@ AreStraightWhole table lines =
     IsPlain table → HasPlainFrame table → table.arrangement ≡ Disabled → IsShownWhole table
     → AreEquallyWide lines
 
--- these are the columns of the drawing, and its lines are equally wide if each character fits its
--- column
+-- `columns` are the columns of the drawing, and its lines are equally wide if each character fits
+-- its column
 abbrev pub AreStraightWhereCharactersFit : TableValue → List ColumnInfo → List Text → Type 0
 AreStraightWhereCharactersFit table columns lines =
     AreColumnsOf table lines columns
     × (IsPlain table → HasPlainFrame table → CharactersFitColumns table columns
     → AreEquallyWide lines)
 
--- with colours and attributes, the lines show equally many terminal columns
+-- even with colours and attributes, all lines show the same number of terminal columns
 abbrev pub AreShownStraight : TableValue → List Text → Type 0
 AreShownStraight table lines =
     HasNoControls table → HasPlainFrame table → EachText (CharactersFit 1) table

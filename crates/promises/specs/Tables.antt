@@ -39,13 +39,15 @@ pub record IsPlain (table : TableValue) : Type 0 where
 
 -- ---- terminal columns
 
--- each character takes at most n terminal columns, and none is U+FE01, which widens another
+-- each character takes at most n terminal columns, and no character is U+FE01, which can make
+-- another character wider
 abbrev pub HasCharactersWithin : ℕ → Text → Type 0
 HasCharactersWithin n text =
     list_all (λ c. nat_le (measure (encode_utf8 c)) n && not (c == 0xFE01)) (chars text) ≡ true
 
--- each character of the style, and each at which texts break, adds one terminal column, wherever it
--- is. No text joins the indicator, and a space is before each text.
+-- each character of the style and each delimiter adds one terminal column between any two texts.
+-- The indicator adds its own width to any text before it, and each shown column has a padding on
+-- its left.
 pub record HasPlainFrame (table : TableValue) : Type 0 where
   pub style : IsOneColumnStyle table.style
   pub delimiter : IsOneColumn table.delimiter

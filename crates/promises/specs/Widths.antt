@@ -19,23 +19,24 @@ frame_room table =
 abbrev pub IsFree : TableValue → Type 0
 IsFree table = (0 < length (shown table)) × IsUnconstrained table
 
--- each character of a table without styles and constraints fits one terminal column
+-- the table has a plain frame, a shown column, and neither styles nor constraints, and each
+-- character of its texts fits one terminal column
 abbrev pub IsNarrow : TableValue → Type 0
 IsNarrow table =
     IsPlain table × HasPlainFrame table × IsFree table × EachText (CharactersFit 1) table
 
--- the lines of such a table are at most as wide as the width, or the frame if that is wider
+-- the lines of a narrow table are at most as wide as w, or as the frame if that is wider
 abbrev pub KeepToWidth : TableValue → ℕ → List Text → Type 0
 KeepToWidth table w lines =
     IsNarrow table → All (λ line. measure line ≤ max w (frame_room table)) lines
 
--- the lines of such a table are exactly as wide as the width, if it has room for the frame
+-- the lines of a narrow table are exactly as wide as w, if w has room for the frame
 abbrev pub FillWidth : TableValue → ℕ → List Text → Type 0
 FillWidth table w lines =
     IsNarrow table → frame_room table ≤ w → All (λ line. measure line ≡ w) lines
 
--- these are the columns of the drawing, and its lines keep to the width if each character fits its
--- column
+-- `columns` are the columns of the drawing, and its lines keep to the width if each character fits
+-- its column
 abbrev pub KeepToWidthWhereCharactersFit : TableValue → List ColumnInfo → List Text → Type 0
 KeepToWidthWhereCharactersFit table columns lines =
     AreColumnsOf table lines columns

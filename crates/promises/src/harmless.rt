@@ -1,12 +1,13 @@
-//! A table sends no commands to the terminal.
+//! A drawing sends no commands to the terminal.
 
 ghost use Rattle.std.specs.Prelude.{IfOk, string_bytes};
 ghost use Rattle.promises.specs.Shown.{HasNoControls, IsHarmless};
 
 use comfy_table::{Result, Table};
 
-/// If its shown texts, its indicator and its style have no control character, a table sends a
-/// terminal nothing but characters, line ends, colours and attributes.
+/// The drawing of a table as a text, which sends a terminal nothing but characters, line feeds,
+/// colours and attributes. This holds if the shown texts, the truncation indicator and the style
+/// have no control character. The only error is `OutOfMemory`.
 pub fn harmless_text(table: &Table) -> Result<String>
     ensures { IfOk result (λ text. HasNoControls table.now → IsHarmless (string_bytes text)) }
 {

@@ -1,35 +1,41 @@
-//! The headline: what a table draws, and how wide.
+//! The headline: the lines of a drawing, and their widths.
 
 ghost use Rattle.std.specs.Prelude.{All, IfOk, IsUtf8};
 ghost use Rattle.promises.specs.Headline.{IsHeadline};
 
 use comfy_table::{Lines, Result, Table};
 
-/// A table is drawn as frame lines, and rows of its shown cells' text lines between spaces and
-/// borders. Each text line is aligned as its cell says, or else its column. A row has as many lines
-/// as its highest cell. SGR sequences are only in these spaces, and only if styles are written and
-/// the cell has a colour or an attribute.
+/// The drawn lines of a table: frame lines, and rows of the text lines of the shown cells, between
+/// spaces and borders. Each text line has the alignment of its cell, or else that of its column. A
+/// row has as many lines as its highest cell. SGR sequences are only in these spaces, and only if
+/// colours and attributes are written and the cell has a colour or an attribute. The only error is
+/// `OutOfMemory`.
 ///
-/// With `custom_styling`, the text of a cell is its visible text, and sequences may be between its
-/// characters. Before each visible byte of a line, the open sequences are those that are active
-/// there in the cell, unless the row has a `max_height`. No line leaves a sequence open, if only
-/// texts have sequences.
+/// With `custom_styling`, the text of a cell counts without its SGR sequences. The lines may have
+/// these sequences between the characters of the text. The sequences that are open before a visible
+/// byte of a line are those that are active at this byte in the cell. This holds unless the row has
+/// a `max_height`. No line leaves a sequence open, if only texts of cells have sequences.
 ///
-/// A text line that fits its column is one line, even if it is empty. Any other is wrapped, which
-/// leaves out only delimiters; a text line of delimiters alone has no line. If `max_height` cuts,
-/// the last line is its head, which leaves room for the indicator, and the indicator. An indicator
-/// that is wider than the column isn't drawn. If no width is kept, a column is as wide as its
-/// widest text.
+/// A text line that fits its column is drawn as one line, even if it is empty. Any other text line
+/// is wrapped, and loses only delimiters. If it has only delimiters, no line is drawn for it. If
+/// `max_height` cuts a cell, only a beginning of its last line is drawn, followed by the truncation
+/// indicator. An indicator that is wider than the column isn't drawn. Under `Disabled`, or if no
+/// width is known, a column without a constraint is as wide as its widest text.
 ///
-/// Let the width W be set, or be the terminal's, and let no column have a constraint except
-/// `Hidden`. If there is room for all columns, each is as wide as its widest text, or wider under
-/// `DynamicFullWidth`. If there isn't, there is a level, which is at least an even share of the
-/// room. A column whose widest text is at most the level is as wide as this text. Any other column
-/// is at least as wide as the level, or has room for its lines at a width of at least the level.
+/// Let W be the width that was set, or else the terminal's width, and let no column have a
+/// constraint except `Hidden`. Let the arrangement be `Dynamic` or `DynamicFullWidth`. If W has
+/// room for the widest texts of all columns, each column is as wide as its widest text, or wider
+/// under `DynamicFullWidth`. Otherwise there is a number of terminal columns, the level, which is
+/// at least an even share of the room. The room is W less borders and paddings. A column whose
+/// widest text is at most the level is as wide as this text, or wider under `DynamicFullWidth`. Any
+/// other column is at least as wide as the level, or has room for its lines at a width of at least
+/// the level.
 ///
-/// Under `Dynamic` a frame line has at most max(W, borders + paddings + shown columns) characters.
-/// Under `DynamicFullWidth` it has exactly that many, if a column is shown. Rows of printable ASCII
-/// have as many.
+/// Let F be the number of characters of borders and paddings, plus one for each shown column. Under
+/// `Dynamic` a frame line has at most max(W, F) characters. Under `DynamicFullWidth` a frame line
+/// has exactly max(W, F) characters, if a column is shown. Let texts and delimiters be printable
+/// ASCII, and let each character of an indicator that is drawn add one terminal column. Then the
+/// lines of rows have as many characters as frame lines, not counting SGR sequences.
 pub fn headline(table: &Table) -> Result<Lines>
     ensures drawing { IfOk result (λ lines. IsHeadline table.now lines) }
     ensures characters { IfOk result (λ lines. All IsUtf8 lines) }

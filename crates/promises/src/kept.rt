@@ -5,23 +5,26 @@ ghost use Rattle.promises.specs.Kept.{ShowAllTexts, ShowWholeTexts};
 
 use comfy_table::{Lines, Result, Table};
 
-/// All texts of shown columns are in the lines, each in its own row and column, if their row has no
-/// `max_height` and `custom_styling` is off. They are there unchanged, or as slices that leave out
-/// only the characters at which they may break.
+/// The drawn lines of a table, which have all texts of shown columns, each in its own row and
+/// column. Each text is unchanged, or in slices that leave out only the characters at which it may
+/// break. This holds for each row without a `max_height`, if `custom_styling` is off. The only
+/// error is `OutOfMemory`.
 ///
 /// The lines are the top border, the header with the line below it, the rows with separators
-/// between them, and the bottom border. A row has as many lines as its highest cell. Each line has
-/// a piece for each shown column, side by side between borders. A piece is a slice between spaces,
-/// which are at least the paddings and fill the column. SGR sequences are only in these spaces, and
-/// only if styles are written and the cell has a colour or an attribute.
+/// between them, and the bottom border. A row has as many lines as its highest cell. Each line of a
+/// row has a piece for each shown column, side by side between borders. A piece is a slice of a
+/// text between spaces, which are at least the paddings and fill the column. SGR sequences are only
+/// in these spaces, and only if colours and attributes are written and the cell has a colour or an
+/// attribute.
 pub fn lines_with_all_texts(table: &Table) -> Result<Lines>
     ensures { IfOk result (λ lines. ShowAllTexts table.now lines) }
 {
     table.lines()
 }
 
-/// All texts of shown columns are in the lines unchanged. Each line of a text is in its own line,
-/// row and column, between frame lines, borders and spaces as in `lines_with_all_texts`.
+/// The drawn lines of a table, which have all texts of shown columns unchanged. Each line of a text
+/// is in a line of its own, in its row and column, between frame lines, borders and spaces as in
+/// `lines_with_all_texts`. The only error is `OutOfMemory`.
 ///
 /// This holds under `Disabled`, if no shown column has a constraint, no row has a `max_height`, no
 /// text line takes more than 65535 terminal columns, and `custom_styling` is off.

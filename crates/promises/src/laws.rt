@@ -14,15 +14,16 @@ ghost use Rattle.promises.specs.Promises.{KeepsPromises};
 ghost use Rattle.promises.specs.Rows.{IsNarrowCell, KeepsRows, table_of};
 ghost use Rattle.promises.specs.Tables.{HasPlainFrame};
 
-/// The lines of a drawing keep all promises on a table's lines. A caller's proof that cites this
-/// law has several promises of one drawing.
+/// The drawn lines of a table keep all promises of this crate on the lines of one table
+/// (`KeepsPromises`). With this law a caller's proof can use several promises on the same drawing.
 pub fn drawings_keep_the_promises()
     ensures { (table : TableValue) (lines : List Text) → IsTableDrawing table lines
         → KeepsPromises table lines }
 {}
 
-/// The lines of a new table with a header and rows keep these promises, under conditions on the
-/// texts alone.
+/// The lines of a new table with a header and rows keep the promises of `KeepsRows`: they are
+/// equally wide, fit or fill a width, and show all texts. The conditions are on the style, the
+/// header and the rows alone.
 pub fn tables_of_rows_keep_the_promises()
     ensures { (style : TableStyle) (arrangement : ContentArrangement) (width : Option ℕ)
         (header : RowValue) (rows : List RowValue) (lines : List Text) → IsOneColumnStyle style
@@ -30,35 +31,37 @@ pub fn tables_of_rows_keep_the_promises()
         → KeepsRows style arrangement width header rows lines }
 {}
 
-/// Each character of printable ASCII takes one terminal column.
+/// A cell with a text of printable ASCII, and without a delimiter of its own, is narrow
+/// (`IsNarrowCell`): each character of its text takes at most one terminal column.
 #[tactic(auto, using(crate::proofs::ConditionLemmas::narrow_cell))]
 pub fn printable_texts_are_narrow()
     ensures { (text : Text) → is_printable_ascii text ≡ true → IsNarrowCell (plain_cell text) }
 {}
 
-/// If the characters of a text fit a column, as `characters_fit` says, so do those of its text
-/// lines.
+/// The characters of each text line of a text fit w terminal columns, as `characters_fit` tests, if
+/// the characters of the text do. Text lines are the parts between line feeds.
 #[tactic(auto, using(crate::proofs::FittingTextLemmas::fitting_lines))]
 pub fn fitting_texts_have_fitting_lines()
     ensures { (w : ℕ) (text : Text) → IsUtf8 text → CharactersFit w text
         → All (CharactersFit w) (plain_cell text).text_lines }
 {}
 
-/// The text that `Display` writes for a whole number is printable ASCII.
+/// The text that `Display` writes for an unsigned integer is printable ASCII.
 #[tactic(auto, using(crate::proofs::ConditionLemmas::printable_number))]
 pub fn numbers_are_printable()
     ensures { (n : ℕ) → is_printable_ascii (decimal n) ≡ true }
 {}
 
-/// The frame of a table is plain, if its paddings, delimiters and indicator are those of a new
-/// table, and each character of its style adds one terminal column.
+/// The frame of a table is plain (`HasPlainFrame`) under two conditions. The table has the columns,
+/// delimiters and indicator of a new table, and each character of its style adds one terminal
+/// column. New columns have no constraint.
 pub fn new_frames_are_plain()
     ensures { (table : TableValue) → HasNewFrame table → HasPlainFrame table }
 {}
 
-/// The truncation indicator of a new table joins no text.
+/// The truncation indicator of a new table, `…`, adds its own width to any text before it.
 #[tactic(auto, using(crate::proofs::ConditionLemmas::ellipsis_apart))]
-pub fn the_ellipsis_stands_apart()
+pub fn the_ellipsis_is_apart()
     ensures { IsApart ellipsis }
 {}
 
@@ -67,16 +70,18 @@ pub fn frame_characters_make_plain_styles()
     ensures { (style : TableStyle) → has_frame_characters style ≡ true → IsOneColumnStyle style }
 {}
 
-/// A header and rows that are added to an empty table are below each other, and each cell has a
-/// column.
+/// A table that was empty has exactly the header and the rows that are added to it, in order. Each
+/// of their cells has a column, and all columns have default settings.
 #[tactic(auto, using(crate::proofs::ConditionLemmas::of_rows))]
-pub fn rows_stand_below_each_other()
+pub fn rows_are_below_each_other()
     ensures { (base : TableValue) (header : RowValue) (rows : List RowValue) → IsEmpty base
         → IsOfRows base header rows (with_rows rows (with_header header base)) }
 {}
 
-/// A part of a table consists of some of its rows inside the frame of the whole table. Parts that
-/// together have all rows, in order, make the whole drawing.
+/// A part of a table is drawn as its rows inside the frame of the whole table: below the top border
+/// and the header, and above the bottom border. Let parts of at least one row each have all rows of
+/// the table, in order. Then their rows, with a row separator between two parts, make the whole
+/// drawing inside the same frame.
 pub fn parts_are_framed_rows()
     ensures part { (table : TableValue) (infos : List ColumnInfo) (rows : List RowValue)
         → RowsAreFramed table infos rows }

@@ -1,38 +1,46 @@
-//! Straight edges.
+//! Straight edges: all lines of a drawing are equally wide in terminal columns. The conditions name
+//! a *plain* frame (`HasPlainFrame`). Each character of its style and each delimiter adds one
+//! terminal column, the truncation indicator adds its own width, and each shown column has a
+//! padding on its left. A new table has a plain frame, with any preset.
 
 ghost use Rattle.std.specs.Prelude.{IfOk};
 ghost use Rattle.promises.specs.Straight.{AreShownStraight, AreStraight, AreStraightWhereCharactersFit, AreStraightWhole};
 
 use comfy_table::{ArrangedTable, Lines, Result, Table};
 
-/// All lines are equally wide, for every arrangement, width, constraint and height.
+/// The drawn lines of a table, which all take the same number of terminal columns, for every
+/// arrangement, width, constraint and height. The only error is `OutOfMemory`.
 ///
 /// This holds if each character of each text takes at most one terminal column, as
-/// `characters_fit(line, 1)` tests, the frame is plain (`HasPlainFrame`), no styles are written,
-/// and `custom_styling` is off.
+/// `characters_fit(line, 1)` tests. The frame must be plain, as that of a new table in any preset
+/// (`HasPlainFrame`), no colours and attributes may be written, and `custom_styling` must be off.
 pub fn straight_lines(table: &Table) -> Result<Lines>
     ensures { IfOk result (λ lines. AreStraight table.now lines) }
 {
     table.lines()
 }
 
-/// All lines are equally wide, for texts of every script.
+/// The drawn lines of a table, which all take the same number of terminal columns, for texts of
+/// every script. The only error is `OutOfMemory`.
 ///
-/// This holds under `Disabled`, if no shown column has a constraint, no row has a `max_height`, no
-/// text line takes more than 65535 terminal columns, the frame is plain (`HasPlainFrame`), no
-/// styles are written, and `custom_styling` is off.
+/// This holds under `Disabled`, if no shown column has a constraint, no row has a `max_height`, and
+/// no text line takes more than 65535 terminal columns. The frame must be plain, as that of a new
+/// table in any preset (`HasPlainFrame`), no colours and attributes may be written, and
+/// `custom_styling` must be off.
 pub fn straight_whole_lines(table: &Table) -> Result<Lines>
     ensures { IfOk result (λ lines. AreStraightWhole table.now lines) }
 {
     table.lines()
 }
 
-/// All lines are equally wide, for texts of every script and for every width. The widths of the
-/// columns are returned with the lines.
+/// The drawn lines of a table, which all take the same number of terminal columns, for texts of
+/// every script and for every width. The `ArrangedTable` that is returned with the lines has the
+/// widths of the columns. The only error is `OutOfMemory`.
 ///
-/// This holds if each character of a shown text has room in its column, as
-/// `characters_fit(line, width)` tests for these columns, the frame is plain (`HasPlainFrame`), no
-/// styles are written, and `custom_styling` is off.
+/// This holds if each character of a shown text has room in its column, as `characters_fit` tests
+/// for a text line and the width of its column. The frame must be plain, as that of a new table in
+/// any preset (`HasPlainFrame`), no colours and attributes may be written, and `custom_styling`
+/// must be off.
 pub fn straight_fitting_lines(table: &Table) -> Result<(ArrangedTable<&Table>, Lines)>
     ensures { IfOk result (λ drawn. AreStraightWhereCharactersFit table.now drawn.0.infos drawn.1) }
 {
@@ -41,11 +49,12 @@ pub fn straight_fitting_lines(table: &Table) -> Result<(ArrangedTable<&Table>, L
     Ok((arranged, lines))
 }
 
-/// All lines show the same number of terminal columns, even with colours and attributes.
+/// The drawn lines of a table, which all show the same number of terminal columns on a terminal,
+/// even with colours and attributes. The only error is `OutOfMemory`.
 ///
 /// This holds if each character of each text takes at most one terminal column, as
-/// `characters_fit(line, 1)` tests, the frame is plain (`HasPlainFrame`), and shown texts,
-/// indicator and style have no control character.
+/// `characters_fit(line, 1)` tests. The frame must be plain, as that of a new table in any preset
+/// (`HasPlainFrame`). Shown texts, truncation indicator and style must have no control character.
 pub fn straight_styled_lines(table: &Table) -> Result<Lines>
     ensures { IfOk result (λ lines. AreShownStraight table.now lines) }
 {

@@ -1,16 +1,19 @@
-//! Lines keep to a width that is set.
+//! Lines are at most as wide as the width that was set, or exactly as wide.
 
 ghost use Rattle.std.specs.Prelude.{IfOk};
 ghost use Rattle.promises.specs.Widths.{FillWidth, KeepToWidth, KeepToWidthWhereCharactersFit};
 
 use comfy_table::{ArrangedTable, ContentArrangement, Lines, Result, Table};
 
-/// Draws under `Dynamic` at a width. No line is wider than this width, or than the frame with all
-/// borders, the paddings and one terminal column for each shown column, whichever is more.
+/// Sets the width and the arrangement `Dynamic` of a table, and draws it. No line takes more
+/// terminal columns than the greater of two numbers: `width`, and the sum of all borders, all
+/// paddings and one for each shown column. The only error is `OutOfMemory`. After it the width and
+/// the arrangement are set too.
 ///
 /// This holds if each character of each text takes at most one terminal column, as
-/// `characters_fit(line, 1)` tests, a column is shown, no shown column has a constraint, the frame
-/// is plain (`HasPlainFrame`), no styles are written, and `custom_styling` is off.
+/// `characters_fit(line, 1)` tests. A column must be shown, and no shown column may have a
+/// constraint. The frame must be plain, as that of a new table in any preset (`HasPlainFrame`), no
+/// colours and attributes may be written, and `custom_styling` must be off.
 pub fn lines_within(table: &mut Table, width: u16) -> Result<Lines>
     ensures { IfOk result (λ lines. KeepToWidth table.old width lines) }
 {
@@ -20,8 +23,11 @@ pub fn lines_within(table: &mut Table, width: u16) -> Result<Lines>
     table.lines()
 }
 
-/// Draws under `DynamicFullWidth` at a width. Each line is exactly this wide, if the width has room
-/// for the frame, under the conditions of `lines_within`.
+/// Sets the width and the arrangement `DynamicFullWidth` of a table, and draws it. Each line takes
+/// exactly `width` terminal columns, under the conditions of `lines_within` and one more. The
+/// further condition is that `width` is at least the sum of all borders, all paddings and one for
+/// each shown column. The only error is `OutOfMemory`. After it the width and the arrangement are
+/// set too.
 pub fn lines_over(table: &mut Table, width: u16) -> Result<Lines>
     ensures { IfOk result (λ lines. FillWidth table.old width lines) }
 {
@@ -31,12 +37,15 @@ pub fn lines_over(table: &mut Table, width: u16) -> Result<Lines>
     table.lines()
 }
 
-/// Under `Dynamic` no line is wider than the width that was set, or than the frame if that is more,
-/// for texts of every script. The widths of the columns are returned with the lines.
+/// The drawn lines of a table under `Dynamic`, for texts of every script. No line takes more
+/// terminal columns than the greater of two numbers: the width that was set, and the sum of
+/// borders, paddings and one for each shown column. The `ArrangedTable` that is returned with the
+/// lines has the widths of the columns. The only error is `OutOfMemory`.
 ///
-/// This holds if each character of a shown text has room in its column, as `characters_fit(line,
-/// width)` tests for these columns, a column is shown, no shown column has a constraint, the frame
-/// is plain (`HasPlainFrame`), no styles are written, and `custom_styling` is off.
+/// This holds if each character of a shown text has room in its column, as `characters_fit` tests
+/// for a text line and the width of its column. A column must be shown, and no shown column may
+/// have a constraint. The frame must be plain, as that of a new table in any preset
+/// (`HasPlainFrame`), no colours and attributes may be written, and `custom_styling` must be off.
 pub fn fitting_lines_within(table: &Table) -> Result<(ArrangedTable<&Table>, Lines)>
     ensures { IfOk result (λ drawn. KeepToWidthWhereCharactersFit table.now drawn.0.infos drawn.1) }
 {

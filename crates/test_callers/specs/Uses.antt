@@ -55,7 +55,7 @@ text_within w text =
     with_row (plain_row (plain_cell text ∷ []))
     (record (new_table ascii_full) { set_width = Some w; arrangement = Dynamic })
 
--- the visible lines of that text in a new column of content width w
+-- the lines of the text of `text_within`, without SGR sequences, in a new column of content width w
 abbrev pub lines_of_one : TableValue → ℕ → Text → List Text
 lines_of_one table w text =
     map (λ (line : CellLine). line.measured)
@@ -74,7 +74,6 @@ IsDrawnWhole table text lines =
 abbrev pub IsUnstyledDrawing : TableValue → List Text → Type 0
 IsUnstyledDrawing table lines = (widths : List ℕ) × (lines ≡ drawing (unstyled table) widths)
 
--- the lines are a drawing of the table, whose rows and header have cells for which P holds in each
 -- the lines are a drawing of the table, in which P holds for the cells of rows and header in each
 -- shown column
 abbrev pub IsDrawnWithCells : (RowValue → ColumnInfo → CellValue → Type 0) → TableValue → List Text

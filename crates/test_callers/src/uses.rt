@@ -24,7 +24,7 @@ use comfy_table::presets::ASCII_FULL;
 use comfy_table::{Cell, ContentArrangement, IntoRow, Lines, Row, Table};
 use std::alloc::Global;
 
-/// A row of two texts.
+/// Makes a row of two cells with these texts.
 pub fn pair(alloc: Global, first: &str, second: &str) -> comfy_table::Result<Row>
     ensures { IfOk result (λ row. row
         ≡ plain_row (plain_cell first.now ∷ plain_cell second.now ∷ [])) }
@@ -32,7 +32,7 @@ pub fn pair(alloc: Global, first: &str, second: &str) -> comfy_table::Result<Row
     [first, second].into_row(alloc)
 }
 
-/// A row of a name and a number.
+/// Makes a row of two cells: a name, and a number in decimal.
 pub fn counted(alloc: Global, name: String, count: u64) -> comfy_table::Result<Row>
     ensures { IfOk result (λ row. row
         ≡ plain_row (plain_cell (string_bytes name) ∷ number_cell count ∷ [])) }
@@ -52,8 +52,8 @@ pub fn add_pair(table: &mut Table, first: &str, second: &str) -> comfy_table::Re
     table.try_add_row([first, second])
 }
 
-/// Appends a text to a row if there is memory for it. Returns true if there was, and leaves the row
-/// unchanged otherwise.
+/// Appends a cell with this text to a row, and returns true. If memory runs out, the row is
+/// unchanged and false is returned.
 pub fn appended(alloc: Global, row: &mut Row, text: &str) -> bool
     ensures { row.new ≡ (if result then with_cell (plain_cell text.now) row.old else row.old) }
 {
@@ -63,7 +63,7 @@ pub fn appended(alloc: Global, row: &mut Row, text: &str) -> bool
     }
 }
 
-/// The drawing of a header and one row.
+/// Draws a new table of a header and one row, and returns its lines.
 pub fn drawn(alloc: Global, header: Row, row: Row) -> comfy_table::Result<Lines>
     ensures { IfOk result (λ lines.
         IsDrawingOf (with_row row (with_header header (new_table ascii_full))) lines) }
@@ -73,9 +73,9 @@ pub fn drawn(alloc: Global, header: Row, row: Row) -> comfy_table::Result<Lines>
     table.lines()
 }
 
-/// Draws a table with a width. If a column is shown and no shown column has a constraint, each
-/// frame line has as many characters as the width. If borders, paddings and one character for each
-/// shown column are more, it has as many as these.
+/// Draws a table that fills a width. If a column is shown and no shown column has a constraint,
+/// each frame line has as many characters as the greater of two numbers. One is the width. The
+/// other is the number of characters of borders and paddings, plus one for each shown column.
 pub fn drawn_over_width(table: &mut Table, width: u16) -> comfy_table::Result<Lines>
     ensures set { table.new ≡ record table.old {
       set_width = Some width;
@@ -90,8 +90,8 @@ pub fn drawn_over_width(table: &mut Table, width: u16) -> comfy_table::Result<Li
     table.lines()
 }
 
-/// Draws a table. If no colours and attributes are written, and sequences in cells count as
-/// characters, this is the drawing without styling.
+/// Draws a table. If no colours and attributes are written, and `custom_styling` is off, the
+/// drawing is that of the table without colours and attributes.
 pub fn drawn_unstyled(table: &Table) -> comfy_table::Result<Lines>
     ensures { IfOk result (λ lines. should_style table.now ≡ false
         → table.now.custom_styling ≡ false
@@ -100,7 +100,8 @@ pub fn drawn_unstyled(table: &Table) -> comfy_table::Result<Lines>
     table.lines()
 }
 
-/// Returns a sink that holds the output for an input, both in memory.
+/// Returns a sink in memory that holds the drawing of an input, without a width and in the style
+/// `ASCII_FULL`. The error is `RunError::Write` if the drawing has more than `room` bytes.
 pub fn output_for(alloc: Global, input: &[u8], room: usize) -> Result<MemorySink, RunError>
     ensures { IfOk result (λ sink. RendersInput None ContentArrangement.Disabled ascii_full
         input.now

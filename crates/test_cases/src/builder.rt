@@ -1,5 +1,5 @@
-//! The table of a case, which is built line by line through public functions. A new function of the
-//! library gets its words here.
+//! The table of a case, which is built line by line through public functions. If the library has a
+//! new function, the words for it are added here.
 
 use crate::request::{Request, request_of};
 use crate::settings::{arrangement, cell_of, set_column};
@@ -11,7 +11,7 @@ use comfy_table::{Row, Table, Terminal};
 use std::alloc::Global;
 use std::mem;
 
-/// A table, and the row that was begun last.
+/// A table, and the row that was begun last, which isn't in the table yet.
 #[derive(Drop)]
 pub struct Builder {
     alloc: Global,
@@ -180,7 +180,7 @@ impl Builder {
         push_lines(self.alloc, lines, text.as_str())
     }
 
-    // numbers with a space between, as one line
+    // draws numbers as one line, with a space between them
     fn draw_numbers(&self, kind: &str, lines: &mut Vec<String>) -> Result<()> {
         let mut line = String::new(self.alloc);
         match kind {
@@ -206,7 +206,8 @@ fn write_widths(table: &Table, line: &mut String) -> Result<()> {
     Ok(())
 }
 
-// the facts about a terminal: whether each output is one, and a width, or `-` for none
+// the facts about a terminal: `true` if standard output is one, `true` if standard error is one,
+// and the width, or `-` for no width
 fn terminal(stdout: &str, stderr: &str, columns: &str) -> Terminal {
     Terminal {
         stdout_is_tty: stdout == "true",

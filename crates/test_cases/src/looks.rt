@@ -57,7 +57,8 @@ const ATTRIBUTES: [(&str, Attribute); 28] = [
 
 const IS_NO_BYTE: Fault = Fault::NotRead("a number isn't of 0 to 255");
 
-/// A colour: one of the names, `Rgb:R,G,B` or `Ansi:N`.
+/// Returns the colour that a word means: one of the names, `Rgb:R,G,B` or `Ansi:N`. Returns
+/// `NotRead` for any other word.
 pub fn color(word: &str) -> Result<Color> {
     match word.split_once(':') {
         Some(("Rgb", numbers)) => rgb(numbers),
@@ -91,7 +92,7 @@ fn byte(word: &str) -> Option<u8> {
     word.parse::<u8>().ok()
 }
 
-/// An attribute by its name.
+/// Returns the attribute with this name, or `NotRead` if the name isn't known.
 pub fn attribute(word: &str) -> Result<Attribute> {
     named(&ATTRIBUTES, word, "an attribute isn't known")
 }

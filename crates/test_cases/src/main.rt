@@ -1,6 +1,6 @@
-//! Reads cases from standard input, draws the table of each one and compares. A case with a line
-//! that can't be read is counted separately. The status is 1 if a case failed or couldn't be read,
-//! or if there was no case.
+//! Reads cases from standard input, draws the table of each case, and compares the lines. A case
+//! with a line that can't be read is counted separately. The status is 1 if a case failed or
+//! couldn't be read, or if there was no case.
 #![tactic(auto)]
 
 mod builder;

@@ -3,7 +3,8 @@
 use crate::words::named;
 use case_files::Result;
 
-/// The request of a line, by its first word.
+/// The request of a line, which its first word names. `FORMAT.md` of `case_files` describes the
+/// requests.
 #[derive(Clone, Copy)]
 pub enum Request {
     Cell,
@@ -49,7 +50,7 @@ const REQUESTS: [(&str, Request); 19] = [
     ("text_only", Request::TextOnly),
 ];
 
-/// Returns the request of a line with this first word.
+/// Returns the request of a line with this first word, or `NotRead` if the word isn't known.
 pub fn request_of(word: &str) -> Result<Request> {
     named(&REQUESTS, word, "a line isn't known")
 }

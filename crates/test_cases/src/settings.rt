@@ -1,4 +1,4 @@
-//! Cells and columns from words. Their settings are `NAME=VALUE`.
+//! Makes cells and columns from words. Settings of cells and columns have the form `NAME=VALUE`.
 
 use crate::looks::{attribute, color};
 use crate::words::{character, named, width};
@@ -34,7 +34,8 @@ enum CellSetting {
     Attribute(Attribute),
 }
 
-/// The cell of a text, with its settings in their order.
+/// Makes a cell. The first word is its text, and the words after it are settings of the form
+/// `NAME=VALUE`, in their order.
 pub fn cell_of(alloc: Global, words: &[&str]) -> Result<Cell> {
     let mut cell = plain_cell(alloc, first_or_empty(words))?;
     for word in words.get(1..).unwrap_or(&[]) {
@@ -47,7 +48,7 @@ fn plain_cell(alloc: Global, word: &str) -> Result<Cell> {
     Ok(Cell::new_owned(alloc, text(alloc, word)?)?)
 }
 
-// the setting of a cell that a word stands for
+// the setting of a cell that a word means
 fn cell_setting(alloc: Global, word: &str) -> Result<CellSetting> {
     let Some((name, value)) = word.split_once('=') else {
         return Err(HAS_NO_VALUE);
@@ -62,7 +63,7 @@ fn cell_setting(alloc: Global, word: &str) -> Result<CellSetting> {
     }
 }
 
-// the cell with one more setting, for which a word stands
+// the cell with one more setting, which a word means
 fn with_setting(alloc: Global, cell: Cell, word: &str) -> Result<Cell> {
     let cell = match cell_setting(alloc, word)? {
         CellSetting::Alignment(alignment) => cell.set_alignment(alignment),
@@ -83,7 +84,8 @@ enum ColumnSetting {
     Constraint(ColumnConstraint),
 }
 
-/// Changes settings of a column in their order.
+/// Changes settings of a column. Each word has the form `NAME=VALUE`. Returns `NotRead` if a word
+/// can't be read; the words before it have taken effect then.
 pub fn set_column(alloc: Global, column: &mut Column, words: &[&str]) -> Result<()> {
     for word in words {
         set_on_column(column, column_setting(alloc, word)?);
@@ -91,7 +93,7 @@ pub fn set_column(alloc: Global, column: &mut Column, words: &[&str]) -> Result<
     Ok(())
 }
 
-// the setting of a column that a word stands for
+// the setting of a column that a word means
 fn column_setting(alloc: Global, word: &str) -> Result<ColumnSetting> {
     let Some((name, value)) = word.split_once('=') else {
         return Err(HAS_NO_VALUE);
@@ -121,7 +123,8 @@ fn set_on_column(column: &mut Column, setting: ColumnSetting) {
     }
 }
 
-/// An arrangement by its name.
+/// Returns the arrangement with this name: `disabled`, `dynamic` or `full`. Returns `NotRead` for
+/// any other word.
 pub fn arrangement(word: &str) -> Result<ContentArrangement> {
     named(&ARRANGEMENTS, word, "an arrangement isn't known")
 }
@@ -141,7 +144,7 @@ fn constraint(word: &str) -> Result<ColumnConstraint> {
     next_constraint(&mut word.split(':'))
 }
 
-// the constraint that the next words stand for
+// the constraint that the next words mean
 fn next_constraint(words: &mut Split<char>) -> Result<ColumnConstraint> {
     match words.next().unwrap_or("") {
         "hidden" => Ok(ColumnConstraint::Hidden),
@@ -161,7 +164,7 @@ fn between(words: &mut Split<char>) -> Result<ColumnConstraint> {
     })
 }
 
-// the width that the next two words stand for
+// the width that the next two words mean
 fn next_width(words: &mut Split<char>) -> Result<Width> {
     let kind = words.next().unwrap_or("");
     match (kind, words.next()) {

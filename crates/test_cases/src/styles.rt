@@ -1,4 +1,4 @@
-//! Presets and the parts of a style, from words.
+//! Makes presets and parts of a style from words.
 
 use crate::words::optional_character;
 use case_files::{Fault, Result};
@@ -6,7 +6,8 @@ use comfy_table::style::presets::by_name;
 use comfy_table::style::{ContentLineStyle, LineStyle, TableStyle};
 use std::alloc::Global;
 
-/// The preset of a name, with its modifiers.
+/// Returns the preset that the first word names, changed by the modifiers after it: `rounded` and
+/// `solid`. Returns `NotRead` if a word isn't known.
 pub fn read_style(words: &[&str]) -> Result<TableStyle> {
     let Some((name, modifiers)) = words.split_first() else {
         return Err(Fault::NotRead("a style has a name"));
@@ -24,7 +25,8 @@ pub fn read_style(words: &[&str]) -> Result<TableStyle> {
     Ok(style)
 }
 
-/// Sets one of the six parts of a style.
+/// Sets one of the six parts of a style. The first word names the part, and each word after it is a
+/// character, or `_` for none. Returns `NotRead` if a word can't be read.
 pub fn set_part(alloc: Global, style: &mut TableStyle, words: &[&str]) -> Result<()> {
     let Some((name, words)) = words.split_first() else {
         return Err(Fault::NotRead("a part has three or four characters"));

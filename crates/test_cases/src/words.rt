@@ -1,9 +1,9 @@
-//! The value for which a word stands: a name, a character or a number.
+//! The value that a word means: a named value, a character or a number.
 
 use case_files::{Fault, Result, text};
 use std::alloc::Global;
 
-/// Returns the value of this name, or the reason for which it can't be read.
+/// Returns the value that `names` has for a name. If it has none, returns `NotRead` with `reason`.
 pub fn named<T: Copy>(names: &[(&str, T)], name: &str, reason: &'static str) -> Result<T> {
     for (known, value) in names {
         if *known == name {
@@ -13,7 +13,8 @@ pub fn named<T: Copy>(names: &[(&str, T)], name: &str, reason: &'static str) -> 
     Err(Fault::NotRead(reason))
 }
 
-/// The one character that a word stands for.
+/// Returns the character that a word means, after its escapes are replaced. Returns `NotRead` if it
+/// isn't exactly one character.
 pub fn character(alloc: Global, word: &str) -> Result<char> {
     let text = text(alloc, word)?;
     let mut characters = text.as_str().chars();
@@ -23,7 +24,7 @@ pub fn character(alloc: Global, word: &str) -> Result<char> {
     }
 }
 
-/// The character for which a word stands, or `None` for an underscore.
+/// Returns the character that a word means, or `None` for an underscore.
 pub fn optional_character(alloc: Global, word: &str) -> Result<Option<char>> {
     if word == "_" {
         return Ok(None);
@@ -31,7 +32,7 @@ pub fn optional_character(alloc: Global, word: &str) -> Result<Option<char>> {
     Ok(Some(character(alloc, word)?))
 }
 
-/// The number that some digits stand for.
+/// Returns the value of a decimal number, or `NotRead` if the word is no number.
 pub fn number(word: &str) -> Result<usize> {
     match word.parse::<usize>() {
         Ok(number) => Ok(number),
@@ -39,7 +40,8 @@ pub fn number(word: &str) -> Result<usize> {
     }
 }
 
-/// The number of terminal columns that some digits stand for.
+/// Returns the value of a decimal number of terminal columns. Returns `NotRead` if the word is no
+/// number, or the number is above 65535.
 pub fn width(word: &str) -> Result<u16> {
     match word.parse::<u16>() {
         Ok(width) => Ok(width),
@@ -47,7 +49,7 @@ pub fn width(word: &str) -> Result<u16> {
     }
 }
 
-/// Adds a number to a line of numbers that are separated by spaces.
+/// Adds a number to a line of numbers. If the line isn't empty, a space is before the number.
 pub fn push_number(line: &mut String, number: u16) -> Result<()> {
     if !line.is_empty() {
         line.push(' ')?;

@@ -1,5 +1,6 @@
-//! Reads cases from standard input, draws the records of each one as its arguments request, and
-//! compares. The status is 1 if a case differs or can't be read, or if there was none.
+//! Reads cases from standard input, draws the records of each case as its arguments request, and
+//! compares the output. The status is 1 if a case differs or can't be read, or if there was no
+//! case.
 #![tactic(auto)]
 
 mod run;

@@ -8,7 +8,7 @@ use std::alloc::{AllocError, Global};
 // The greatest number of bytes of an output.
 const ROOM: usize = 65536;
 
-/// A run that is being described.
+/// A run of csvtable that the lines of a case describe.
 #[derive(Drop)]
 pub struct Run {
     alloc: Global,
@@ -78,7 +78,7 @@ impl Run {
         }
     }
 
-    // The output for the input, or the message if there is none.
+    // The output for the input, or the message if there is no output.
     fn output(&self) -> std::result::Result<String, AllocError> {
         let arguments = self.all_arguments()?;
         let context = OutputContext {

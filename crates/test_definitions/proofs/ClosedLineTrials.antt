@@ -148,7 +148,7 @@ second_line text first second none some (starts, lines, zip, order, same) = by_l
     by_lines starts (a ∷ []) zip order same = cc same
     by_lines [] (a ∷ b ∷ lines) zip order same = absurd zip
     by_lines (f ∷ []) (a ∷ b ∷ lines) zip order same = absurd zip.1
-    by_lines (above ∷ from ∷ starts) (a ∷ line ∷ lines) zip order same = none from.at part behind resumed
+    by_lines (above ∷ from ∷ starts) (a ∷ line ∷ lines) zip order same = none from.at part after resumed
       where
         own : ResumesSequences (record (plain_cell []) { text_lines = text ∷ [] }) from line
         own = zip.1.0
@@ -171,8 +171,8 @@ second_line text first second none some (starts, lines, zip, order, same) = by_l
         part : take (length (visible_text second)) (drop from.at (visible_text text)) ≡ visible_text second
         part = ap₂ (λ (n : Text) (t : Text). take (length n) (drop from.at (visible_text t))) (sym measured) (sym in_cell.1) ∙ own.part ∙ measured
 
-        behind : length (visible_text first) ≤ from.at
-        behind =
+        after : length (visible_text first) ≤ from.at
+        after =
             let long = ap length (sym zip.0.visible ∙ ap visible_text upper) in
             elim order.1.0 [ inl less ↦ absurd (omega (arith, less, ap length in_cell.0, ap length above_in_cell.0)) | inr same_text ↦ omega (arith, same_text.1, long) ]
 
@@ -186,19 +186,19 @@ not_resumed : ¬ (ResumeTheirSequences (record (plain_cell []) { text_lines = co
 not_resumed = second_line (codes "\u{1b}[1mabcd\u{1b}[0m") (codes "\u{1b}[1mab\u{1b}[0m") (codes "cd") by_at (omega arith)
   where
     by_at : (at : ℕ) → take 2 (drop at (codes "abcd")) ≡ codes "cd" → 2 ≤ at → ¬ ([] ≡ active [] (codes "\u{1b}[1mabcd\u{1b}[0m") (at + 0))
-    by_at zero part behind same = absurd (omega (arith, behind))
-    by_at (suc zero) part behind same = absurd (omega (arith, behind))
-    by_at (suc (suc zero)) part behind same = cc same
-    by_at (suc (suc (suc zero))) part behind same = let none : length (codes "cd") ≡ 1 = ap length (sym part) in absurd (omega (arith, none))
-    by_at (suc (suc (suc (suc at)))) part behind same = let none : ◌≡◌ {A = Text} [] (codes "cd") = sym (ap (take 2) (drop-nil at)) ∙ part in absurd (cc none)
+    by_at zero part after same = absurd (omega (arith, after))
+    by_at (suc zero) part after same = absurd (omega (arith, after))
+    by_at (suc (suc zero)) part after same = cc same
+    by_at (suc (suc (suc zero))) part after same = let none : length (codes "cd") ≡ 1 = ap length (sym part) in absurd (omega (arith, none))
+    by_at (suc (suc (suc (suc at)))) part after same = let none : ◌≡◌ {A = Text} [] (codes "cd") = sym (ap (take 2) (drop-nil at)) ∙ part in absurd (cc none)
 
 -- and isn't bold, if the second half of the text isn't, though both halves are the same
 resumed_too_far : ¬ (ResumeTheirSequences (record (plain_cell []) { text_lines = codes "\u{1b}[1mab\u{1b}[0mab" ∷ [] }) (codes "\u{1b}[1mab\u{1b}[0m" ∷ codes "\u{1b}[1mab\u{1b}[0m" ∷ []))
 resumed_too_far = second_line (codes "\u{1b}[1mab\u{1b}[0mab") (codes "\u{1b}[1mab\u{1b}[0m") (codes "\u{1b}[1mab\u{1b}[0m") by_at (omega arith)
   where
     by_at : (at : ℕ) → take 2 (drop at (codes "abab")) ≡ codes "ab" → 2 ≤ at → ¬ (codes "\u{1b}[1m" ∷ [] ≡ active [] (codes "\u{1b}[1mab\u{1b}[0mab") (at + 0))
-    by_at zero part behind same = absurd (omega (arith, behind))
-    by_at (suc zero) part behind same = absurd (omega (arith, behind))
-    by_at (suc (suc zero)) part behind same = cc same
-    by_at (suc (suc (suc zero))) part behind same = let none : length (codes "ab") ≡ 1 = ap length (sym part) in absurd (omega (arith, none))
-    by_at (suc (suc (suc (suc at)))) part behind same = let none : ◌≡◌ {A = Text} [] (codes "ab") = sym (ap (take 2) (drop-nil at)) ∙ part in absurd (cc none)
+    by_at zero part after same = absurd (omega (arith, after))
+    by_at (suc zero) part after same = absurd (omega (arith, after))
+    by_at (suc (suc zero)) part after same = cc same
+    by_at (suc (suc (suc zero))) part after same = let none : length (codes "ab") ≡ 1 = ap length (sym part) in absurd (omega (arith, none))
+    by_at (suc (suc (suc (suc at)))) part after same = let none : ◌≡◌ {A = Text} [] (codes "ab") = sym (ap (take 2) (drop-nil at)) ∙ part in absurd (cc none)

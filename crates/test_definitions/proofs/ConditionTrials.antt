@@ -17,7 +17,7 @@ use Rattle.comfy_table.specs.TableValue.{TableValue, new_table, with_header, wit
 use Rattle.promises.specs.Conditions.{IsOfRows, framed}
 use Rattle.promises.specs.Rows.{IsNarrowCell}
 use Rattle.promises.specs.Tables.{HasPlainFrame}
-use Rattle.test_definitions.proofs.PromiseTrials.{wide_is_refused, widening_behind_a_selector}
+use Rattle.test_definitions.proofs.PromiseTrials.{wide_is_refused, widening_after_a_selector}
 use Rattle.test_definitions.proofs.StraightTrials.{number_sign_adds_two, selector_joins}
 use Rattle.test_definitions.proofs.TrialTables.{row_of, utf8}
 
@@ -38,7 +38,7 @@ wide_second_line each = wide_is_refused (each 1 [] (omega arith))
 
 clashing_line : ¬ (All (CharactersFit 2) (plain_cell (encode_utf8_all (0x201C ∷ 0xFE0F ∷ 0xFE01 ∷ []))).text_lines)
 unfolding wrapping encode
-clashing_line each = widening_behind_a_selector (each 0 [] (omega arith))
+clashing_line each = widening_after_a_selector (each 0 [] (omega arith))
 
 -- false: promises::laws::numbers_are_printable
 half : ¬ (is_printable_ascii (utf8 "1½") ≡ true)
@@ -95,7 +95,7 @@ IsTable header rows made = IsOfRows (new_table ascii_full) header rows made
 abbrev two_cells : RowValue
 two_cells = row_of ("ab" ∷ "cd" ∷ [])
 
--- false: promises::laws::rows_stand_below_each_other
+-- false: promises::laws::rows_are_below_each_other
 row_is_missing : ¬ (IsTable row (row ∷ row ∷ []) table)
 row_is_missing is = let few : 1 ≡ 2 = ap (λ (t : TableValue). length t.rows) is.is in absurd (omega (arith, few))
 

@@ -365,10 +365,10 @@ plain_at (suc n) (cell ∷ cells) plain = plain_at n cells plain
 abbrev pub EndsInSpace : Text → Type 0
 EndsInSpace line = (front : Text) × (line ≡ front ++ codes " ")
 
-behind_spaces : (n : ℕ) → 1 ≤ n → EndsInSpace (spaces n)
-behind_spaces zero some = absurd (omega (arith, some))
-behind_spaces (suc zero) some = ([], refl)
-behind_spaces (suc (suc n)) some = let more = behind_spaces (suc n) (omega arith) in (0x20 ∷ more.0, ap (λ (t : Text). 0x20 ∷ t) more.1)
+after_spaces : (n : ℕ) → 1 ≤ n → EndsInSpace (spaces n)
+after_spaces zero some = absurd (omega (arith, some))
+after_spaces (suc zero) some = ([], refl)
+after_spaces (suc (suc n)) some = let more = after_spaces (suc n) (omega arith) in (0x20 ∷ more.0, ap (λ (t : Text). 0x20 ∷ t) more.1)
 
 after : (front line : Text) → EndsInSpace line → EndsInSpace (front ++ line)
 after front line (own, is) = (front ++ own, ap (λ (t : Text). front ++ t) is ∙ sym (append_assoc front own (codes " ")))
@@ -378,7 +378,7 @@ plain_piece : {side : CellAlignment} (column : ColumnValue) → column.padding �
 plain_piece column padding w line piece is =
     let one : column.padding.1 ≡ 1 = ap (λ (x : ℕ × ℕ). x.1) padding in
     subst EndsInSpace (sym is.drawn)
-    (after is.before (line ++ is.after) (after line is.after (subst EndsInSpace (sym is.are_spaces.1) (behind_spaces is.right (omega (arith, one, is.padded.1))))))
+    (after is.before (line ++ is.after) (after line is.after (subst EndsInSpace (sym is.are_spaces.1) (after_spaces is.right (omega (arith, one, is.padded.1))))))
 
 -- the line of a row of one field, or of a name and one field, in a style without borders
 pub ends_plain : {sides : List CellAlignment} (look : Look) → look.style ≡ dashed → (has_names : Bool) (whole : List Bool) (fields : List Text) → length fields ≡ (if has_names then 2 else 1) → (line text : Text) → ((own : List Text) → AreLinesOf text own → own ≡ line ∷ []) → IsDrawingOf look false has_names sides whole (fields ∷ []) text → EndsInSpace line

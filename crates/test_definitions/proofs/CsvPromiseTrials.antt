@@ -36,7 +36,7 @@ use Rattle.csv_tables.specs.declared.selection.Selection.{Selection}
 use Rattle.comfy_table.specs.Drawing.{terminated_text_of}
 use Rattle.comfy_table.specs.Laws.{AreLinesOf, LeavesNoneOpen}
 use Rattle.csv_promises.specs.Counted.{AreExpanded, DrawsLines, EachDrawnLine, HasEachLine, MayExpand}
-use Rattle.csv_promises.specs.Fields.{AreLinedUp, HoldsField, HoldsFields, IsDrawingOf, KeepsNumbers, ShowsAllFields, ShowsDrawn, ShowsFields, ShowsPairs, ShowsRecords, ShowsRows, StaysAsItIs, all_rows, columns_asked, mark_for, no_marks, positions_in, side_at, side_for, sides_after_number, sides_for, whole_for}
+use Rattle.csv_promises.specs.Fields.{AreLinedUp, HoldsField, HoldsFields, IsDrawingOf, KeepsNumbers, ShowsAllFields, ShowsDrawn, ShowsFields, ShowsPairs, ShowsRecords, ShowsRows, StaysAsItIs, all_rows, columns_of_options, mark_for, no_marks, positions_in, side_at, side_for, sides_after_number, sides_for, whole_for}
 use Rattle.csv_promises.specs.Harmless.{IsHarmlessFor, IsInBold, ShowsNothingHarmful}
 use Rattle.csv_promises.specs.Messages.{IsTameLine}
 use Rattle.csv_records.specs.Cleaning.{cleaned, is_harmful, is_replaced}
@@ -60,8 +60,8 @@ abbrev unbold : Look
 unbold = record bold { has_bold_header = false; aligns_decimals = false; style = dashed }
 
 -- options without a header, with records expanded or not, and with a limit
-abbrev pub asked : Expansion → Option ℕ → Options → Options
-asked expansion limit options = record options { selection = record options.selection { has_header = false; limit = limit; noun = Record }; look = record unbold { expansion = expansion } }
+abbrev pub with_expansion : Expansion → Option ℕ → Options → Options
+with_expansion expansion limit options = record options { selection = record options.selection { has_header = false; limit = limit; noun = Record }; look = record unbold { expansion = expansion } }
 
 -- without a limit, the output for rows has only the drawn lines
 pub drawn_lines : (P : Text → Type 0) (options : Options) → options.look.expansion ≡ Never → options.selection.limit ≡ None → (records : List (List Text)) (text : Text) → EachDrawnLine P options records text → HasEachLine P text
@@ -70,9 +70,9 @@ drawn_lines P options never unlimited records text is =
     (subst (λ (b : Bool). DrawsLines P options.selection.noun (drawn_rows options.selection records) b is.count is.drawn) (subst (λ (e : Expansion). MayExpand e is.is_expanded) never is.expansion) is.draws)
 
 -- two lines of rows show the same number of terminal columns
-same_columns : (first second text : Text) → slice_split (λ b. b == 0x0A) text ≡ first ∷ second ∷ [] ∷ [] → list_any (λ b. b == 0x1B) first ≡ false → list_any (λ b. b == 0x1B) second ≡ false → (options : Options) (records : List (List Text)) → IsStraight (asked Never None options) records text → measure first ≡ measure second
+same_columns : (first second text : Text) → slice_split (λ b. b == 0x0A) text ≡ first ∷ second ∷ [] ∷ [] → list_any (λ b. b == 0x1B) first ≡ false → list_any (λ b. b == 0x1B) second ≡ false → (options : Options) (records : List (List Text)) → IsStraight (with_expansion Never None options) records text → measure first ≡ measure second
 same_columns first second text cut plain_first plain_second options records is =
-    let own = drawn_lines (ShowsColumns is.0) (asked Never None options) refl refl records text is.1 in
+    let own = drawn_lines (ShowsColumns is.0) (with_expansion Never None options) refl refl records text is.1 in
     let all : All (ShowsColumns is.0) (first ∷ second ∷ []) = subst (All (ShowsColumns is.0)) (two_lines first second own.lines (sym cut ∙ found text own.lines own.are)) own.each in
     let one = All-head (ShowsColumns is.0) first (second ∷ []) all in
     let other = All-head (ShowsColumns is.0) second [] (All-tail (ShowsColumns is.0) first (second ∷ []) all) in
@@ -87,7 +87,7 @@ unfolding wrapping encode
 two_columns = refl
 
 -- false: csv_promises::straight_output, csv_promises::straight_whole_output
-two_widths_are_not_straight : (options : Options) (records : List (List Text)) → ¬ (IsStraight (asked Never None options) records (codes "ba\na\n"))
+two_widths_are_not_straight : (options : Options) (records : List (List Text)) → ¬ (IsStraight (with_expansion Never None options) records (codes "ba\na\n"))
 two_widths_are_not_straight options records is =
     let same = same_columns (codes "ba") (codes "a") (codes "ba\na\n") refl refl refl options records is in absurd (omega (arith, same, one_column, two_columns))
 
@@ -101,7 +101,7 @@ narrow_columns = refl
 
 -- a drawing in which a wide character counts as one terminal column isn't straight
 -- false: csv_promises::straight_fitting_output, csv_promises::straight_wide_output
-wide_in_a_narrow_column : (options : Options) (records : List (List Text)) → ¬ (IsStraight (asked Never None options) records (utf8 "| 京 |\n| a |\n"))
+wide_in_a_narrow_column : (options : Options) (records : List (List Text)) → ¬ (IsStraight (with_expansion Never None options) records (utf8 "| 京 |\n| a |\n"))
 unfolding encode
 wide_in_a_narrow_column options records is =
     let same = same_columns (utf8 "| 京 |") (codes "| a |") (utf8 "| 京 |\n| a |\n") refl refl refl options records is in absurd (omega (arith, same, wide_columns, narrow_columns))
@@ -115,11 +115,11 @@ unfolding wrapping encode
 noted_columns = refl
 
 -- nor is one with a line that counts records, if records aren't expanded and none is left out
-counted_row : (options : Options) (records : List (List Text)) → ¬ (IsStraight (asked Never None options) records (codes "| a |\nrecord 7\n"))
+counted_row : (options : Options) (records : List (List Text)) → ¬ (IsStraight (with_expansion Never None options) records (codes "| a |\nrecord 7\n"))
 counted_row options records is =
     let same = same_columns (codes "| a |") (codes "record 7") (codes "| a |\nrecord 7\n") refl refl refl options records is in absurd (omega (arith, same, narrow_columns, counted_columns))
 
-counted_rows : (options : Options) (records : List (List Text)) → ¬ (IsStraight (asked Never None options) records (codes "| a |\n3 of 9 records\n"))
+counted_rows : (options : Options) (records : List (List Text)) → ¬ (IsStraight (with_expansion Never None options) records (codes "| a |\n3 of 9 records\n"))
 counted_rows options records is =
     let same = same_columns (codes "| a |") (codes "3 of 9 records") (codes "| a |\n3 of 9 records\n") refl refl refl options records is in absurd (omega (arith, same, narrow_columns, noted_columns))
 
@@ -258,9 +258,9 @@ lined_up_amounts : all_rows false (mark_for true (first_column []) amounts) (0 �
 unfolding amounts first_column chars digits encode ucd_category field_at is_neutral is_number has_indian_groups
 lined_up_amounts = refl
 
-unasked_amounts : all_rows false (mark_for false (first_column []) amounts) (0 ∷ []) None amounts ≡ amounts
+unaligned_amounts : all_rows false (mark_for false (first_column []) amounts) (0 ∷ []) None amounts ≡ amounts
 unfolding amounts first_column chars digits encode ucd_category field_at is_neutral is_number has_indian_groups
-unasked_amounts = refl
+unaligned_amounts = refl
 
 own_sides : map (λ left. sides_for true (first_column left) amounts) ([] ∷ (0 ∷ []) ∷ []) ≡ (Right ∷ Right ∷ []) ∷ (Right ∷ Left ∷ []) ∷ []
 unfolding amounts first_column chars digits encode ucd_category field_at is_neutral is_number has_indian_groups
@@ -279,8 +279,8 @@ right_side_of_words = refl
 marks_are_left_as_they_are : ¬ (AreLinedUp (record unbold { aligns_decimals = true }) false)
 marks_are_left_as_they_are is = true≢false (sym (is.without_width refl))
 
-marks_are_lined_up_unasked : ¬ (AreLinedUp unbold true)
-marks_are_lined_up_unasked is = true≢false (is.unasked refl)
+marks_are_lined_up_unset : ¬ (AreLinedUp unbold true)
+marks_are_lined_up_unset is = true≢false (is.unaligned refl)
 
 -- with `auto`, columns of numbers and dates are kept whole, and so is that of record numbers, if there is a row
 numbers_and_words : List (List Text)
@@ -428,8 +428,8 @@ split_date keeps =
     omega (arith, whole)
 
 -- no text follows the last record
-text_behind : ¬ (AreExpanded (ShowsPairs unbold [] []) Record (Some 1) 2 [] (codes " a \n"))
-text_behind is = cc is
+text_after : ¬ (AreExpanded (ShowsPairs unbold [] []) Record (Some 1) 2 [] (codes " a \n"))
+text_after is = cc is
 
 -- records are always expanded if that is requested, and never if it is excluded
 expanded_never : ¬ (MayExpand Never true)
@@ -441,7 +441,7 @@ rows_always is = cc is
 -- ---- records
 
 abbrev expanded : Options → Options
-expanded options = asked Always None options
+expanded options = with_expansion Always None options
 
 -- no record is lost if all columns are drawn
 abbrev in_rows : Look
@@ -454,21 +454,21 @@ lost_field columns selection count first unnumbered (are, lined, shows) =
     (subst (λ (field : Text). Shows false (0 ∷ []) ((field ∷ []) ∷ [])) a_stays
     (subst (λ (positions : List ℕ). Shows false positions (all_rows false no_marks positions None ((codes "a" ∷ []) ∷ []))) first
     (subst (λ (b : Bool). Shows b columns.drawn (all_rows b no_marks columns.drawn None ((codes "a" ∷ []) ∷ []))) unnumbered
-    (subst (λ (b : Bool). Shows selection.is_numbered columns.drawn (all_rows selection.is_numbered (mark_for b columns ((codes "a" ∷ []) ∷ [])) columns.drawn None ((codes "a" ∷ []) ∷ []))) (lined.unasked refl) shows))))
+    (subst (λ (b : Bool). Shows selection.is_numbered columns.drawn (all_rows selection.is_numbered (mark_for b columns ((codes "a" ∷ []) ∷ [])) columns.drawn None ((codes "a" ∷ []) ∷ []))) (lined.unaligned refl) shows))))
   where
     Shows : Bool → List ℕ → List (List Text) → Type 0
     Shows b positions rows = ShowsRows in_rows false false (sides_after_number b (map (side_for columns ((codes "a" ∷ []) ∷ [])) positions)) (whole_for None Never b positions ((codes "a" ∷ []) ∷ [])) rows []
 
-lost_record : (options : Options) → options.columns.chosen.items ≡ [] → options.columns.dropped.items ≡ [] → options.selection.is_numbered ≡ false → ¬ (ShowsRecords (asked Never None options) ((codes "a" ∷ []) ∷ []) [])
+lost_record : (options : Options) → options.columns.chosen.items ≡ [] → options.columns.dropped.items ≡ [] → options.selection.is_numbered ≡ false → ¬ (ShowsRecords (with_expansion Never None options) ((codes "a" ∷ []) ∷ []) [])
 lost_record options chosen dropped unnumbered is =
-    lost_field columns (asked Never None options).selection is.count first unnumbered
-    (subst (ShowsFields false in_rows (asked Never None options).selection columns None ((codes "a" ∷ []) ∷ []) is.count) (sym (is.joined ∙ append-nil is.drawn))
-    (subst (λ (b : Bool). ShowsDrawn b (asked Never None options) None ((codes "a" ∷ []) ∷ []) is.count is.drawn) is.expansion is.draws))
+    lost_field columns (with_expansion Never None options).selection is.count first unnumbered
+    (subst (ShowsFields false in_rows (with_expansion Never None options).selection columns None ((codes "a" ∷ []) ∷ []) is.count) (sym (is.joined ∙ append-nil is.drawn))
+    (subst (λ (b : Bool). ShowsDrawn b (with_expansion Never None options) None ((codes "a" ∷ []) ∷ []) is.count is.drawn) is.expansion is.draws))
   where
     columns : ColumnsValue
-    columns = columns_asked (asked Never None options) [] ((codes "a" ∷ []) ∷ [])
+    columns = columns_of_options (with_expansion Never None options) [] ((codes "a" ∷ []) ∷ [])
 
-    first : positions_in (asked Never None options) [] ((codes "a" ∷ []) ∷ []) ≡ 0 ∷ []
+    first : positions_in (with_expansion Never None options) [] ((codes "a" ∷ []) ∷ []) ≡ 0 ∷ []
     first = rw chosen (rw dropped refl)
 
 -- nor is a text that a program in C passes in a row
@@ -490,7 +490,7 @@ rows_after_numbers = refl
 
 -- the line below the first of two records counts two, or says that there are more
 abbrev first_of_two : Options → Text → Type 0
-first_of_two options text = ShowsRecords (asked Never (Some 1) options) ((codes "a" ∷ []) ∷ (codes "b" ∷ []) ∷ []) text
+first_of_two options text = ShowsRecords (with_expansion Never (Some 1) options) ((codes "a" ∷ []) ∷ (codes "b" ∷ []) ∷ []) text
 
 -- `2` or a space precedes its last nine characters
 abbrev the_count : Text → ℕ

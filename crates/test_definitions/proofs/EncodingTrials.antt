@@ -14,8 +14,8 @@ found : map (encoding_of None) ((0xFF ∷ 0xFE ∷ 0x61 ∷ 0x00 ∷ []) ∷ (0x
 found = refl
 
 -- the encoding that is set is used, whatever mark there is
-asked_for : map (λ invocation. encoding_of (Some invocation) (0xFF ∷ 0xFE ∷ [])) (Utf8 ∷ Cp1252 ∷ Utf16 ∷ []) ≡ Utf8 ∷ Cp1252 ∷ Utf16 ∷ []
-asked_for = refl
+as_chosen : map (λ invocation. encoding_of (Some invocation) (0xFF ∷ 0xFE ∷ [])) (Utf8 ∷ Cp1252 ∷ Utf16 ∷ []) ≡ Utf8 ∷ Cp1252 ∷ Utf16 ∷ []
+as_chosen = refl
 
 -- ---- Windows-1252
 

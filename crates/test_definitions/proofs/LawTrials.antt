@@ -44,7 +44,7 @@ wide_line : ¬ (All FitsTwo (codes "abc" ∷ []))
 unfolding wrapping
 wide_line fit = let first : 3 ≤ 2 = All-head FitsTwo (codes "abc") [] fit in omega (arith, first)
 
--- false: comfy_parts::laws::lines_of_every_script_fit
+-- false: comfy_parts::laws::lines_of_fitting_texts_fit
 wide_character : ¬ (All (λ line. measure line ≤ 1) (lines_of_text 1 0x20 (utf8 "年")))
 unfolding wrapping
 wide_character fit =
@@ -208,7 +208,7 @@ lost_letter same = let is : 0x61 ∷ [] ≡ 0x61 ∷ 0x62 ∷ [] = same in cc is
 abbrev numbered : TableStyle
 numbered = record ascii_full { top_border = record ascii_full.top_border { left = Some 0x23 } }
 
--- false: comfy_parts::laws::presets_have_columns_of_one
+-- false: comfy_parts::laws::preset_characters_take_one_column
 number_sign_as_border : ¬ (All IsOneColumnPreset (numbered ∷ []))
 number_sign_as_border all =
     let style : IsOneColumnStyle numbered = (All-head IsOneColumnPreset numbered [] all).0 in
@@ -237,7 +237,7 @@ IsMeasuredWithout line = visible_text line.written ≡ line.measured
 abbrev bold : CellLine
 bold = record { measured = codes "\u{1b}[1ma"; written = codes "\u{1b}[1ma" }
 
--- false: comfy_parts::laws::sequences_count_nothing
+-- false: comfy_parts::laws::sequences_take_no_columns
 sequence_is_measured : ¬ (All IsMeasuredWithout (bold ∷ []))
 sequence_is_measured all =
     let is : codes "a" ≡ codes "\u{1b}[1ma" = All-head IsMeasuredWithout bold [] all in
@@ -383,7 +383,7 @@ escape_in_a_cell free =
     let is : true ≡ false = column 0 cell (omega arith) 0 [] (omega arith) in
     cc is
 
--- false: comfy_table::laws::drawings_are_one, comfy_table::laws::hidden_columns_tell_nothing
+-- false: comfy_table::laws::drawings_are_one, comfy_table::laws::hidden_columns_change_nothing
 other_lines : ¬ (texts ("a" ∷ []) ≡ texts ("b" ∷ []))
 unfolding wrapping
 other_lines same = let is : ◌≡◌ {A = ℕ} 0x61 0x62 = cc same in omega (arith, is)

@@ -14,6 +14,6 @@ enclosed : is_number (codes "(5)") ≡ true
 unfolding chars lib.Utf8.encode ucd_category is_number has_indian_groups
 enclosed = refl
 
-enclosed_behind_a_sign : is_number (codes "-(5)") ≡ false
+enclosed_after_a_sign : is_number (codes "-(5)") ≡ false
 unfolding chars lib.Utf8.encode ucd_category is_number has_indian_groups
-enclosed_behind_a_sign = refl
+enclosed_after_a_sign = refl

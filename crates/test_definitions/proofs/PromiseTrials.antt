@@ -29,7 +29,7 @@ use Rattle.comfy_parts.specs.declared.style.cell.CellAlignment.TheVariants.{Left
 use Rattle.comfy_table.specs.Frame.{frame_line, optional_frame_line}
 use Rattle.comfy_table.specs.HiddenColumns.{without_hidden}
 use Rattle.comfy_table.specs.TableValue.{cell_content_width, TableValue, header_and_rows, new_table, should_style, shown_columns, constrained, with_rows}
-use Rattle.promises.specs.Added.{AreSameButForHidden, HasRoomFor, StandsBelowAsWide, Stay, StayWithRow}
+use Rattle.promises.specs.Added.{AreSameButForHidden, HasRoomFor, IsBelowAsWide, Stay, StayWithRow}
 use Rattle.promises.specs.Headline.{IsFramedBy, IsHeadline, IsPiece, is_styled}
 use Rattle.promises.specs.Kept.{AreShown, AreSlicesOf, ShowAllTexts, ShowWholeTexts, ShowsRow, ShowsWholeRow}
 use Rattle.promises.specs.Promises.{KeepsPromises}
@@ -227,9 +227,9 @@ unfolding wrapping encode
 widening_alone = refl
 
 -- but it doesn't fit directly beside another selector, on either side
-pub widening_behind_a_selector : ¬ (CharactersFit 2 (encode_utf8_all (0x201C ∷ 0xFE0F ∷ 0xFE01 ∷ [])))
+pub widening_after_a_selector : ¬ (CharactersFit 2 (encode_utf8_all (0x201C ∷ 0xFE0F ∷ 0xFE01 ∷ [])))
 unfolding wrapping encode
-widening_behind_a_selector is = cc is
+widening_after_a_selector is = cc is
 
 widening_before_a_selector : ¬ (CharactersFit 2 (encode_utf8_all (0x201C ∷ 0xFE01 ∷ 0xFE0E ∷ [])))
 unfolding wrapping encode
@@ -569,7 +569,7 @@ wider_cell : ¬ (HasRoomFor (word_table (codes "a")) (plain_row (plain_cell (cod
 unfolding wrapping
 wider_cell room = by_row own.0 own.1 own.2 own.3 own.4
   where
-    own : StandsBelowAsWide (word_table (codes "a")) 0 (plain_cell (codes "ab"))
+    own : IsBelowAsWide (word_table (codes "a")) 0 (plain_cell (codes "ab"))
     own = room.widths 0 (plain_cell (codes "ab")) refl
 
     by_row : (above : RowValue) (other : CellValue) → Contains (header_and_rows (word_table (codes "a"))) above → slice_get above.cells 0 ≡ Some other → ¬ (2 ≤ cell_content_width other)

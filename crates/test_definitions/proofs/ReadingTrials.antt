@@ -100,9 +100,9 @@ by_line : map (λ (delimiter : Delimiter). delimited delimiter true (codes "sep=
 unfolding strip_bom records_from next_record
 by_line = refl
 
-behind_a_mark : delimited Auto true ((0xEF ∷ 0xBB ∷ 0xBF ∷ []) ++ codes "SEP=|") ≡ (0x7C, [])
+after_a_mark : delimited Auto true ((0xEF ∷ 0xBB ∷ 0xBF ∷ []) ++ codes "SEP=|") ≡ (0x7C, [])
 unfolding strip_bom records_from next_record
-behind_a_mark = refl
+after_a_mark = refl
 
 by_name : delimited NamedOrTab true (codes "a,b\n") ≡ (0x09, codes "a,b\n")
 unfolding strip_bom records_from next_record
@@ -169,8 +169,8 @@ json_inputs = refl
 no_signs : map (not_text_for None 0) ((0x1F ∷ []) ∷ (0x50 ∷ 0x4B ∷ 0x2C ∷ 4 ∷ []) ∷ (0xFF ∷ 0xFE ∷ 0x61 ∷ 0 ∷ []) ∷ []) ≡ None ∷ None ∷ None ∷ []
 no_signs = refl
 
-asked_for : not_text_for (Some Utf8) 0 (0x61 ∷ 0 ∷ 0x2C ∷ 0 ∷ []) ≡ None
-asked_for = refl
+as_chosen : not_text_for (Some Utf8) 0 (0x61 ∷ 0 ∷ 0x2C ∷ 0 ∷ []) ≡ None
+as_chosen = refl
 
 -- NULs in lines that are left out don't count, and lines are counted from the start of the input
 below_a_nul : map (λ (skip : ℕ). not_text_for None skip (0 ∷ 0x0A ∷ 0x61 ∷ 0x0A ∷ 0 ∷ [])) (0 ∷ 1 ∷ 2 ∷ 3 ∷ []) ≡ Some (Binary 1) ∷ Some (Binary 3) ∷ Some (Binary 3) ∷ None ∷ []

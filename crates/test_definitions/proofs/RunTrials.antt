@@ -15,8 +15,8 @@ use Rattle.csv_command.proofs.FirstRowLemmas.{whole_no_memory}
 use Rattle.csv_command.specs.Run.{IsAfter, IsAfterIn}
 use Rattle.csv_command.specs.declared.error.CsvError.TheVariants.{OutOfMemory}
 use Rattle.csv_command.specs.declared.arguments.Options.{Options}
-use Rattle.devices.proofs.AskedLemmas.{asked_some}
-use Rattle.devices.specs.Outcome.{IsByBeginning, NoneIsEnough, RunFacts, Whole, asked_at, asked_front}
+use Rattle.devices.proofs.TestedLemmas.{tested_some}
+use Rattle.devices.specs.Outcome.{IsByBeginning, NoneIsEnough, RunFacts, Whole, tested_at, tested_front}
 
 -- ---- want of memory
 
@@ -52,35 +52,35 @@ out_of_memory_by_beginning : (options : Options) → IsAfter {T = ℕ} (limited 
 out_of_memory_by_beginning options =
     inr (record {
       n = 0;
-      is_asked = record { reaches = omega (arith, length-replicate {A = ℕ} 65536 0xFF); none_before = λ m below. absurd (omega (arith, below)) };
+      is_tested = record { reaches = omega (arith, length-replicate {A = ℕ} 65536 0xFF); none_before = λ m below. absurd (omega (arith, below)) };
       unread = refl;
       says = inl (record { no_device_failed = record { no_read_failed = refl; no_write_failed = refl }; nothing_written = refl; fine = λ whole. record { limit = 3; is = refl; uncounted = refl } });
     })
 
 -- ---- beginnings
 
-asked : map asked_at (0 ∷ 1 ∷ 2 ∷ []) ≡ 65536 ∷ 131072 ∷ 262144 ∷ []
-asked = refl
+tested : map tested_at (0 ∷ 1 ∷ 2 ∷ []) ≡ 65536 ∷ 131072 ∷ 262144 ∷ []
+tested = refl
 
 -- no beginning has three times 65536 bytes
-three_blocks : (n : ℕ) → ¬ (asked_at n ≡ 196608)
+three_blocks : (n : ℕ) → ¬ (tested_at n ≡ 196608)
 three_blocks zero is = absurd (omega (arith, is))
 three_blocks (suc zero) is = absurd (omega (arith, is))
 three_blocks (suc (suc n)) is = absurd (let more : 2 ^ 2 ≤ 2 ^ suc (suc n) = pow_mono {i = 2} {j = suc (suc n)} (omega arith) in omega (arith, is, more))
 
 -- no beginning of a shorter input is drawn, not even of an empty one
 short : (options : Options) (Says : RunFacts → Type 0) → ¬ (IsByBeginning (IsNotEnough options) Says facts)
-short options Says part = absurd (omega (arith, asked_some part.n, part.is_asked.reaches))
+short options Says part = absurd (omega (arith, tested_some part.n, part.is_tested.reaches))
 
 -- if the first beginning is enough, neither a longer one is drawn nor the whole input
-later : (options : Options) (facts : RunFacts) (records : List (List Text)) → AreEnough options (whole_lines (asked_front 0 facts.input)) records → (Says : RunFacts → Type 0) → (part : IsByBeginning (IsNotEnough options) Says facts) → part.n ≡ 0
-later options facts records enough Says part = by_turn part.n part.is_asked.none_before
+later : (options : Options) (facts : RunFacts) (records : List (List Text)) → AreEnough options (whole_lines (tested_front 0 facts.input)) records → (Says : RunFacts → Type 0) → (part : IsByBeginning (IsNotEnough options) Says facts) → part.n ≡ 0
+later options facts records enough Says part = by_turn part.n part.is_tested.none_before
   where
-    by_turn : (n : ℕ) → ((m : ℕ) → m < n → IsNotEnough options (asked_front m facts.input)) → n ≡ 0
+    by_turn : (n : ℕ) → ((m : ℕ) → m < n → IsNotEnough options (tested_front m facts.input)) → n ≡ 0
     by_turn zero none = refl
     by_turn (suc n) none = absurd (none 0 (omega arith) records enough)
 
-whole : (options : Options) (input : Text) (records : List (List Text)) → 65536 ≤ length input → AreEnough options (whole_lines (asked_front 0 input)) records → ¬ (NoneIsEnough (IsNotEnough options) input)
+whole : (options : Options) (input : Text) (records : List (List Text)) → 65536 ≤ length input → AreEnough options (whole_lines (tested_front 0 input)) records → ¬ (NoneIsEnough (IsNotEnough options) input)
 whole options input records long enough none = none 0 long records enough
 
 lines : map whole_lines (codes "a\nb\nc" ∷ codes "a\n" ∷ codes "ab" ∷ codes "\n\n\r" ∷ []) ≡ codes "a\nb\n" ∷ codes "a\n" ∷ [] ∷ codes "\n\n" ∷ []

@@ -56,7 +56,7 @@ unfolding wrapping
 with_selector_measures_two = refl
 
 -- a variation selector isn't apart either
--- false: promises::laws::the_ellipsis_stands_apart
+-- false: promises::laws::the_ellipsis_is_apart
 pub selector_joins : ¬ (IsApart (encode_utf8_all (0xFE0F ∷ [])))
 selector_joins apart =
     let two = apart (utf8 "#") number_sign_is_text in
@@ -119,13 +119,13 @@ emoji_selector_before : two_measures (0x2018 ∷ 0xFE0F ∷ 0xFE01 ∷ 0x5DC ∷
 unfolding wrapping
 emoji_selector_before = refl
 
-text_selector_behind : two_measures (0x231A ∷ 0x200D ∷ 0x231A ∷ 0xFE01 ∷ 0xFE0E ∷ 0x5DC ∷ []) ≡ 4 ∷ 3 ∷ []
+text_selector_after : two_measures (0x231A ∷ 0x200D ∷ 0x231A ∷ 0xFE01 ∷ 0xFE0E ∷ 0x5DC ∷ []) ≡ 4 ∷ 3 ∷ []
 unfolding wrapping
-text_selector_behind = refl
+text_selector_after = refl
 
-emoji_selector_behind : two_measures (0x231A ∷ 0x200D ∷ 0x231A ∷ 0xFE01 ∷ 0xFE0F ∷ 0xFE0E ∷ 0x5DC ∷ []) ≡ 4 ∷ 3 ∷ []
+emoji_selector_after : two_measures (0x231A ∷ 0x200D ∷ 0x231A ∷ 0xFE01 ∷ 0xFE0F ∷ 0xFE0E ∷ 0x5DC ∷ []) ≡ 4 ∷ 3 ∷ []
 unfolding wrapping
-emoji_selector_behind = refl
+emoji_selector_after = refl
 
 -- so the characters of such a text never fit, however wide the column is
 pairs_never_fit : map (characters_fit 9) (encode_utf8_all (0x2018 ∷ 0xFE0E ∷ 0xFE01 ∷ 0x5DC ∷ []) ∷ encode_utf8_all (0xFE01 ∷ 0xFE0F ∷ []) ∷ []) ≡ false ∷ false ∷ []

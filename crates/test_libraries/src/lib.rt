@@ -1,6 +1,6 @@
 //! Tests of the libraries, and of the promises about them, for facts that no clause states: above
-//! all that calls succeed if there is memory. Expected values come from outside. Nothing depends on
-//! this crate.
+//! all that calls succeed if there is memory. Expected values come from the rules or from other
+//! programs. Nothing depends on this crate.
 #![tactic(auto)]
 
 #[cfg(test)]

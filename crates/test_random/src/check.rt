@@ -1,8 +1,8 @@
-//! Checks of a drawing from outside.
+//! Checks of a drawing, made without the functions that draw.
 
 use crate::controls::has_stray_control;
 use crate::drawing::Drawing;
-use crate::hidden::hidden_columns_tell_nothing;
+use crate::hidden::hidden_columns_change_nothing;
 use crate::kept::Reader;
 use crate::sample::Sample;
 use crate::stays::shown_lines_stay;
@@ -10,7 +10,7 @@ use comfy_table::utils::arrangement::helper::count_border_columns;
 use comfy_table::{ContentArrangement, Result, Table};
 use std::alloc::Global;
 
-/// The fault of the drawing of a sample, if it has one.
+/// Draws a sample, and returns the first fault of the drawing, or `None` if it has none.
 pub fn fault_of(alloc: Global, sample: &Sample) -> Result<Option<&'static str>> {
     let drawing = drawing_of(alloc, &sample.table)?;
     let fault = fault_of_counts(sample, &drawing);
@@ -58,7 +58,7 @@ fn fault_of_texts(
     if !keeps_texts(alloc, sample, drawing)? {
         return Ok(Some("a text is lost or changed"));
     }
-    if !hidden_columns_tell_nothing(alloc, &sample.table)? {
+    if !hidden_columns_change_nothing(alloc, &sample.table)? {
         return Ok(Some("a hidden column changes the lines"));
     }
     if !shown_lines_stay(&sample.table)? {
@@ -76,7 +76,7 @@ fn fault_of_texts(
     Ok(None)
 }
 
-// true if the drawing has the texts of the cells
+// returns true if the drawing has all texts of the cells, without changes
 fn keeps_texts(alloc: Global, sample: &Sample, drawing: &Drawing) -> Result<bool> {
     let has_sequences = sample.contents.kind.has_sequences;
     let mut reader = Reader::new(alloc, sample.delimiter, has_sequences);
@@ -98,7 +98,8 @@ fn are_all(counts: &[usize], wanted: usize) -> bool {
     counts.iter().all(|count| *count == wanted)
 }
 
-// true if a line was cut by a height, or may have been cut if the indicator doesn't show it
+// returns true if a row's height cut a line; with an indicator of the sample's own, true if it may
+// have cut one
 fn is_cut(sample: &Sample, drawing: &Drawing) -> bool {
     if sample.has_own_indicator {
         sample.contents.is_limited
@@ -107,7 +108,8 @@ fn is_cut(sample: &Sample, drawing: &Drawing) -> bool {
     }
 }
 
-// true if each line has as many visible characters as without sequences
+// returns true if each line has as many visible characters as in the drawing of the same texts
+// without sequences
 fn is_drawn_as_visible(alloc: Global, sample: &Sample, drawing: &Drawing) -> Result<bool> {
     let visible = sample.as_visible(alloc)?;
     is_drawn_alike(alloc, &visible, drawing)
@@ -118,14 +120,16 @@ fn is_drawn_alike(alloc: Global, visible: &Sample, drawing: &Drawing) -> Result<
     Ok(visible.contents.has_formed || other.has_counts_of(drawing))
 }
 
-/// True if a frame line with this number of characters keeps to the set width, unless a constraint
-/// prevents it.
+/// Returns true if a frame line of `count` characters keeps to the table's width. It may have more
+/// characters if borders, paddings and one character for each shown column are more than the width.
+/// Also returns true if the table has no width to keep to, or if a shown column has a constraint.
 pub fn keeps_to_width(table: &Table, count: usize) -> bool {
     let Some(width) = table.width() else {
         return true;
     };
     let mut visible: usize = 0;
-    // one character and the paddings of each shown column
+    // the number of characters for borders, for the paddings of shown columns, and one for each
+    // shown column
     let mut least: usize = 0;
     let mut are_free = true;
     for column in table.column_iter() {

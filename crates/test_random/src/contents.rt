@@ -23,21 +23,23 @@ const CONSTRAINTS: [ColumnConstraint; 6] = [
     },
 ];
 
-/// The kind of the texts in rows, and facts about the rows that were made.
+/// Makes random rows with texts of one kind, and has facts about the rows that were made.
 #[derive(Clone, Copy)]
 pub struct Contents {
-    /// The kind of the texts.
+    /// The kind of the texts, such as printable ASCII.
     pub kind: Kind,
-    // true if texts are without their sequences
+    // true if texts are made without SGR sequences
     is_visible: bool,
-    /// True if a row's height is limited.
+    /// True if at least one row has a greatest height.
     pub is_limited: bool,
-    /// True if the parts of a text form a sequence after its sequences are taken out.
+    /// True if a text has a new SGR sequence after its sequences were taken out, formed by the
+    /// parts around them.
     pub has_formed: bool,
 }
 
 impl Contents {
-    /// No row was made yet. Texts are without their sequences if only their visible text is wanted.
+    /// Returns `Contents` of a random kind, with which no row was made yet. If `is_visible` is
+    /// true, texts are made without their SGR sequences.
     pub fn new(rng: &mut Pcg32, is_visible: bool) -> Contents {
         Contents {
             kind: Kind::new(rng),
@@ -47,7 +49,7 @@ impl Contents {
         }
     }
 
-    /// A row of up to four cells.
+    /// Makes a random row of up to four cells.
     pub fn row(&mut self, alloc: Global, rng: &mut Pcg32) -> Result<Row> {
         let mut row = Row::new(alloc);
         self.fill_row(alloc, rng, &mut row)?;
@@ -65,7 +67,7 @@ impl Contents {
         Ok(())
     }
 
-    /// A cell.
+    /// Makes a random cell, with a text of the kind `kind`.
     pub fn cell(&mut self, alloc: Global, rng: &mut Pcg32) -> Result<Cell> {
         let text = self.text(alloc, rng)?;
         let cell = Cell::new_owned(alloc, text)?;
@@ -88,7 +90,7 @@ impl Contents {
     }
 }
 
-// the number of visible characters of a text
+// the number of characters of a text outside its SGR sequences
 fn count_visible(alloc: Global, text: &str) -> Result<usize> {
     let scan = Scan::of(alloc, text)?;
     Ok(scan.count)
@@ -102,8 +104,8 @@ fn with_settings(rng: &mut Pcg32, cell: Cell, kind: Kind) -> Cell {
     cell.set_alignment(alignment(rng))
 }
 
-/// Changes the settings of some columns. In three of four tables the only constraint is that a
-/// column is hidden. Sometimes the first two columns are exchanged, and their labels don't say so.
+/// Gives columns random settings. In three of four tables, `Hidden` is the only constraint. In one
+/// of eight tables the first two columns are exchanged, and the field `index` of all columns is 7.
 pub fn change_columns(rng: &mut Pcg32, columns: &mut [Column], kind: Kind) {
     let is_free = !once_in(rng, 4);
     for column in columns.iter_mut() {

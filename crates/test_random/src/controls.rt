@@ -4,7 +4,8 @@ use crate::scan::Scan;
 use comfy_table::{Result, Row, Table};
 use std::alloc::Global;
 
-/// True if a drawn line has a control character outside its sequences, though no cell has one.
+/// Returns true if a drawn line has a control character outside its SGR sequences, although no cell
+/// has a control character.
 pub fn has_stray_control(alloc: Global, table: &Table) -> Result<bool> {
     Ok(has_control_in_lines(alloc, table)? && !has_control_in_rows(alloc, table)?)
 }
@@ -39,8 +40,8 @@ fn has_control_in_row(alloc: Global, knows_sequences: bool, row: &Row) -> Result
     Ok(false)
 }
 
-// true if a control character other than a line feed is visible in a text; its sequences are
-// visible if they aren't known
+// returns true if a text has a control character other than a line feed; if `knows_sequences` is
+// true, only outside its SGR sequences
 fn has_control(alloc: Global, knows_sequences: bool, text: &str) -> Result<bool> {
     let mut scan = Scan::new(alloc, knows_sequences);
     scan.read(text)?;

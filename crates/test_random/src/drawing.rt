@@ -1,4 +1,4 @@
-//! A drawing in the style `UTF8_FULL`, read from outside.
+//! A drawing in the style `UTF8_FULL`, as it is read from its lines.
 
 use crate::scan::{INDICATOR, Scan};
 use comfy_table::Result;
@@ -10,18 +10,20 @@ const BORDER: char = '│';
 // the character between two pieces of a line
 const JUNCTION: char = '┆';
 
-/// A drawing: the number of characters of each line, and the texts in the cells of each row.
+/// Facts that were read from the lines of a drawing: the number of characters of each line, and the
+/// lines of each row.
 #[derive(Drop)]
 pub struct Drawing {
     /// The number of characters of each frame line.
     pub frame_counts: Vec<usize>,
     /// The number of visible characters of each line of a row.
     pub row_counts: Vec<usize>,
-    /// True if a line of a row has the indicator of a cut.
+    /// True if a line of a row has the indicator `…`, which marks a cut text.
     pub has_indicator: bool,
-    /// True if a piece of a line leaves a sequence open.
+    /// True if the piece of a cell in some line leaves an SGR sequence open.
     pub leaves_open: bool,
-    /// The lines of each row that has a line, the header first.
+    /// The lines of each row, the header first. A frame line ends each item, so the first item is
+    /// empty.
     pub rows: Vec<Vec<String>>,
     // the lines since the last frame line
     row: Vec<String>,
@@ -30,8 +32,8 @@ pub struct Drawing {
 }
 
 impl Drawing {
-    /// No line was read yet. Sequences are read as sequences if they are known, and as characters
-    /// otherwise.
+    /// Returns a `Drawing` that hasn't read a line yet. If `knows_sequences` is true, SGR sequences
+    /// aren't counted. Otherwise each of their characters counts.
     pub fn new(alloc: Global, knows_sequences: bool) -> Drawing {
         Drawing {
             frame_counts: Vec::new(alloc),
@@ -44,7 +46,7 @@ impl Drawing {
         }
     }
 
-    /// Reads the next line.
+    /// Reads the next line of the drawing. The lines have to be read in order.
     pub fn add_line(&mut self, alloc: Global, line: String) -> Result<()> {
         if !line.as_str().starts_with(BORDER) {
             return self.add_frame_line(alloc, line.as_str());
@@ -71,15 +73,16 @@ impl Drawing {
         Ok(self.row_counts.push(self.scan.count)?)
     }
 
-    /// True if another drawing has lines with the same numbers of characters.
+    /// Returns true if each line of another drawing has as many characters as the same line of this
+    /// drawing.
     pub fn has_counts_of(&self, other: &Drawing) -> bool {
         self.frame_counts.as_slice() == other.frame_counts.as_slice()
             && self.row_counts.as_slice() == other.row_counts.as_slice()
     }
 }
 
-/// The piece of the shown column at a place, in a line of a row: the text between its side borders,
-/// cut at the junctions.
+/// Returns the piece of a shown column in a line of a row: the text between two borders. `place` is
+/// the number of shown columns before the column. The piece is empty if the line has no such piece.
 pub fn piece_at(line: &str, place: usize) -> &str {
     let line = line.strip_prefix(BORDER).unwrap_or(line);
     let line = line.strip_suffix(BORDER).unwrap_or(line);

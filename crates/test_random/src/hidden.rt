@@ -6,9 +6,9 @@ use std::alloc::Global;
 // higher and wider than a random text
 const OTHER: &str = "another text\nof\nfour\nlines";
 
-/// True if a table is drawn as before with other cells in its hidden columns, and beyond its
-/// columns.
-pub fn hidden_columns_tell_nothing(alloc: Global, table: &Table) -> Result<bool> {
+/// Returns true if a copy of the table has the same drawing. The copy has other cells in hidden
+/// columns, and in positions at which the table has no column.
+pub fn hidden_columns_change_nothing(alloc: Global, table: &Table) -> Result<bool> {
     let other = with_others(alloc, table)?;
     let lines = table.to_text()?;
     Ok(lines.as_str() == other.to_text()?.as_str())
@@ -37,7 +37,7 @@ fn row_with_others(alloc: Global, columns: &[Column], row: &Row) -> Result<Row> 
     Ok(other)
 }
 
-// the cell if its column is shown, or another one
+// the cell if its column is shown, or a cell with the text `OTHER`
 fn cell_or_other(alloc: Global, column: Option<&Column>, cell: &Cell) -> Result<Cell> {
     match column {
         Some(column) if !column.is_hidden() => Ok(cell.clone()?),

@@ -5,7 +5,7 @@ use crate::scan::Scan;
 use comfy_table::{Cell, Column, Result, Row};
 use std::alloc::Global;
 
-/// Reads the drawing of each cell beside its text.
+/// Compares the drawing of each cell with the text of the cell.
 #[derive(Drop)]
 pub struct Reader {
     // the table's delimiter
@@ -13,14 +13,16 @@ pub struct Reader {
     knows_sequences: bool,
     drawn: Scan,
     wanted: Scan,
-    /// True if the cells of each row that was read have the characters of their texts, in order,
-    /// except spaces and delimiters, and each under the same sequences.
+    /// True if each cell that was read is drawn with all characters of its text in order, except
+    /// spaces and delimiters. The same SGR sequences must be open before a character in the drawing
+    /// and in the text.
     pub are_kept: bool,
 }
 
 impl Reader {
-    /// No row was read yet of a table with this delimiter. `custom_styling` is on if sequences are
-    /// known.
+    /// Returns a `Reader` that hasn't read a row yet. `delimiter` is that of the table.
+    /// `knows_sequences` is true if the table has `custom_styling`, so that SGR sequences aren't
+    /// characters.
     pub fn new(alloc: Global, delimiter: char, knows_sequences: bool) -> Reader {
         Reader {
             delimiter,
@@ -31,7 +33,8 @@ impl Reader {
         }
     }
 
-    /// Reads the drawn lines of each row, and compares them with its cells.
+    /// Reads the drawn lines of the header and of each row, and compares them with the cells. The
+    /// result is in `are_kept`.
     pub fn read_rows(
         &mut self,
         columns: &[Column],
@@ -66,7 +69,8 @@ impl Reader {
         self.wanted.begin(delimiter);
     }
 
-    // reads the piece of each line at this place; no sequence stays open after a line
+    // reads the piece of each line in the shown column at this place; sequences that a line leaves
+    // open are forgotten
     fn read_lines(&mut self, lines: &[String], place: usize) -> Result<()> {
         for line in lines {
             self.drawn.read(piece_at(line.as_str(), place))?;
@@ -87,15 +91,15 @@ impl Reader {
     }
 }
 
-// the delimiter of a cell in a table with this one
+// the delimiter of a cell, in a table whose delimiter is `delimiter`
 fn delimiter_of(delimiter: char, column: &Column, cell: &Cell) -> char {
     cell.cell_delimiter()
         .or(column.column_delimiter())
         .unwrap_or(delimiter)
 }
 
-// the lines of a row that have nothing but its texts; if sequences are taken out, the last line may
-// end in a cut, whose characters can form others
+// the lines of a row that are compared with its texts. If sequences are known and the row's height
+// is limited, the last line is left out: a cut text and its indicator may form a sequence.
 fn lines_to_compare<'a>(
     knows_sequences: bool,
     row: &Row,

@@ -1,8 +1,8 @@
-//! Draws random tables of difficult texts, and checks each drawing from outside. With each table it
-//! draws another one of many scripts, whose edges must be straight if its characters fit their
-//! columns. It also prints how many other tables aren't straight, which is no fault. Standard input
-//! has `SEED COUNT`: the same seed gives the same tables. Each fault is printed with the number of
-//! its table. The status is 1 if there is one.
+//! Draws random tables of difficult texts, and checks each drawing. With each table it draws a
+//! second table, of texts in many scripts. The edges of the second table must be straight if its
+//! characters fit their columns. The program also prints how many other tables aren't straight,
+//! which is no fault. Standard input has `SEED COUNT`: the same seed gives the same tables. Each
+//! fault is printed with the number of its table. The status is 1 if there is a fault.
 #![tactic(auto)]
 
 mod check;
@@ -27,10 +27,10 @@ use sample::Sample;
 use std::alloc::Global;
 use std::process::ExitCode;
 
-// the message for another input
+// the message for an input that isn't `SEED COUNT`
 const WANTED: &str = "SEED COUNT is wanted";
 
-// the number of tables with a fault, and the number of those that aren't straight and needn't be
+// the number of tables with a fault, and the number of tables that aren't straight and needn't be
 #[derive(Clone, Copy)]
 struct Counts {
     faults: u64,
@@ -38,7 +38,7 @@ struct Counts {
 }
 
 fn main(rt: HostRuntime) -> anyhow::Result<ExitCode> {
-    let (seed, count) = asked_for(&rt)?;
+    let (seed, count) = read_arguments(&rt)?;
     let counts = look_at(&rt, Pcg32::seed_from_u64(seed), count)?;
     println!(rt; "{} crooked tables without the premise", counts.crooked)?;
     println!(rt; "{count} tables, {} faults", counts.faults)?;
@@ -87,7 +87,7 @@ fn fault_of_sample(alloc: Global, rng: &mut Pcg32) -> Result<Option<&'static str
 }
 
 // the seed, and the number of tables
-fn asked_for(rt: &HostRuntime) -> anyhow::Result<(u64, u64)> {
+fn read_arguments(rt: &HostRuntime) -> anyhow::Result<(u64, u64)> {
     let line = rt.lines(rt.alloc()).next().context(WANTED)??;
     seed_and_count(line.as_str()).context(WANTED)
 }

@@ -11,29 +11,31 @@ use std::alloc::Global;
 
 const WIDTHS: [u16; 9] = [0, 1, 2, 3, 7, 12, 20, 35, 65535];
 
-/// A table, and facts that its functions don't return.
+/// A random table, and facts about it that its own functions don't return.
 #[derive(Drop)]
 pub struct Sample {
     /// The table, in the style `UTF8_FULL`, whose characters are in no text and no delimiter.
     pub table: Table,
     /// The table's delimiter.
     pub delimiter: char,
-    /// The contents of its rows. If texts have sequences, `custom_styling` is on.
+    /// The kind of the texts in the rows, and facts about the rows. If texts have SGR sequences,
+    /// the table has `custom_styling`.
     pub contents: Contents,
-    /// True if cut lines end in another indicator than that of a new table.
+    /// True if the table has another indicator than `…`, which marks cut texts in a new table.
     pub has_own_indicator: bool,
-    // the numbers from which it was made
+    // the random numbers from which the sample was made
     numbers: Pcg32,
 }
 
 impl Sample {
-    /// The same table with its visible texts, without their sequences.
+    /// Returns a sample that is made from the same random numbers, but whose texts have no SGR
+    /// sequences.
     pub fn as_visible(&self, alloc: Global) -> Result<Sample> {
         Sample::new(alloc, &mut self.numbers.clone()?, true)
     }
 
-    /// A table of up to five rows and four columns. Texts are without their sequences if only their
-    /// visible text is wanted.
+    /// Makes a random table of up to five rows and four columns. If `is_visible` is true, texts are
+    /// made without their SGR sequences.
     pub fn new(alloc: Global, rng: &mut Pcg32, is_visible: bool) -> Result<Sample> {
         let numbers = rng.clone()?;
         let mut sample = Sample::without_rows(alloc, numbers, Contents::new(rng, is_visible));

@@ -1,13 +1,13 @@
-//! The visible part of a text, read from outside: its characters, and the sequences that are open
-//! before each.
+//! The visible part of a text: its characters, and the SGR sequences that are open before each
+//! character.
 
 use comfy_table::Result;
 use std::alloc::Global;
 
-/// The character after a line that was cut, unless a table has its own indicator.
+/// The character at the end of a cut text, unless the table has an indicator of its own.
 pub const INDICATOR: char = '…';
 
-/// The result of reading one or several texts.
+/// Reads one or several texts, and has the result.
 #[derive(Drop)]
 pub struct Scan {
     // true if sequences are read as sequences, and not as characters
@@ -15,17 +15,19 @@ pub struct Scan {
     delimiter: char,
     // the parameters of the sequences that are open
     open: String,
-    /// The characters except spaces, line feeds, delimiters and the indicator of a cut, each after
-    /// the sequences that are open before it.
+    /// The visible characters that were read, except spaces, line feeds, the delimiter and `…`.
+    /// Before each character are the parameters of the SGR sequences that are open before it, each
+    /// between `<` and `>`.
     pub found: String,
-    /// All visible characters.
+    /// All visible characters that were read.
     pub visible: String,
-    /// The number of visible characters.
+    /// The number of visible characters that were read.
     pub count: usize,
 }
 
 impl Scan {
-    /// Nothing was read yet.
+    /// Returns a `Scan` that hasn't read a text yet, with a space as the delimiter. If
+    /// `knows_sequences` is true, SGR sequences aren't visible characters.
     pub fn new(alloc: Global, knows_sequences: bool) -> Scan {
         Scan {
             knows_sequences,
@@ -37,14 +39,14 @@ impl Scan {
         }
     }
 
-    /// Reads one text, with sequences.
+    /// Returns the `Scan` of one text, in which SGR sequences aren't visible characters.
     pub fn of(alloc: Global, text: &str) -> Result<Scan> {
         let mut scan = Scan::new(alloc, true);
         scan.read(text)?;
         Ok(scan)
     }
 
-    /// Forgets all that was read, and begins with this delimiter.
+    /// Forgets all that was read, and sets the delimiter for the next texts.
     pub fn begin(&mut self, delimiter: char) {
         self.delimiter = delimiter;
         self.open.clear();
@@ -53,7 +55,7 @@ impl Scan {
         self.count = 0;
     }
 
-    /// Reads a text.
+    /// Reads a text, and adds it to the result.
     pub fn read(&mut self, text: &str) -> Result<()> {
         let mut rest = text;
         for _ in 0..text.len() {
@@ -62,7 +64,7 @@ impl Scan {
         Ok(())
     }
 
-    /// True if a sequence is open at the end.
+    /// Returns true if an SGR sequence is open after the last character that was read.
     pub fn is_open(&self) -> bool {
         !self.open.is_empty()
     }
@@ -76,10 +78,10 @@ impl Scan {
     // rest
     fn read_front<'a>(&mut self, text: &'a str) -> Result<&'a str> {
         if self.knows_sequences
-            && let Some((parameters, behind)) = sequence_of(text)
+            && let Some((parameters, after)) = sequence_of(text)
         {
             self.open_or_close(parameters)?;
-            return Ok(behind);
+            return Ok(after);
         }
         let mut characters = text.chars();
         if let Some(character) = characters.next() {
@@ -109,9 +111,9 @@ impl Scan {
 
 // the parameters of the sequence at the front of a text, and the rest
 fn sequence_of<'a>(text: &'a str) -> Option<(&'a str, &'a str)> {
-    let (parameters, behind) = text.strip_prefix("\u{1b}[")?.split_once('m')?;
+    let (parameters, after) = text.strip_prefix("\u{1b}[")?.split_once('m')?;
     let is_sequence = parameters
         .bytes()
         .all(|byte| matches!(byte, b'0'..=b'9' | b';' | b':'));
-    is_sequence.then_some((parameters, behind))
+    is_sequence.then_some((parameters, after))
 }

@@ -144,18 +144,20 @@ const WILD: [&str; 46] = [
 
 const SEQUENCES: [&str; 4] = ["\u{1b}[31m", "\u{1b}[0m", "\u{1b}[1;4m", "\u{1b}[m"];
 
-/// The kind of words in a text.
+/// The kind of words in a random text.
 #[derive(Clone, Copy)]
 pub struct Words {
-    /// Each of their characters takes at most one terminal column.
+    /// True if each character of the words takes at most one terminal column.
     pub are_narrow: bool,
-    /// There are also pieces that aren't words, in any order and without spaces between them.
+    /// True if a text also has pieces that aren't words, such as joiners, in any order. Spaces may
+    /// then be missing between words.
     pub are_wild: bool,
-    /// SGR sequences are between them.
+    /// True if there are SGR sequences between words.
     pub have_sequences: bool,
 }
 
-/// A text of up to seven words, with spaces between them and sometimes a line feed.
+/// Makes a random text of up to seven words of this kind. After each word is a space, or sometimes
+/// a line feed, or nothing if `are_wild` is true.
 pub fn text(alloc: Global, rng: &mut Pcg32, words: Words) -> Result<String> {
     let mut text = String::new(alloc);
     for _ in 0..rng.random_range(0u32..8) {
@@ -164,7 +166,7 @@ pub fn text(alloc: Global, rng: &mut Pcg32, words: Words) -> Result<String> {
     Ok(text)
 }
 
-// a word, or nothing if it must be narrow and isn't
+// a random word, or an empty one if words must be narrow and it isn't
 fn word(rng: &mut Pcg32, words: Words) -> &'static str {
     let word = any_word(rng, words.are_wild);
     if words.are_narrow && !characters_fit(word, 1) {

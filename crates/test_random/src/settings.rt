@@ -16,12 +16,12 @@ const ALIGNMENTS: [CellAlignment; 3] = [
     CellAlignment::Center,
 ];
 
-/// An arrangement of a table.
+/// Returns a random arrangement for a table.
 pub fn arrangement(rng: &mut Pcg32) -> ContentArrangement {
     one_of(rng, &ARRANGEMENTS, ContentArrangement::Disabled)
 }
 
-/// An alignment of a cell.
+/// Returns a random alignment for a cell.
 pub fn alignment(rng: &mut Pcg32) -> CellAlignment {
     one_of(rng, &ALIGNMENTS, CellAlignment::Left)
 }

@@ -1,9 +1,10 @@
-//! Shown lines stay if a further row widens no column.
+//! The lines of a table don't change if a further row widens no column.
 
 use comfy_table::{ContentArrangement, Result, Table};
 
-/// True if the lines above the bottom border stay when the first row is added again. This is
-/// promised without a width, if each cell of the row has a column.
+/// Returns true if the lines above the bottom border don't change when the first row is added
+/// again. This is promised if the table doesn't use its width, and each cell of the row has a
+/// column. If nothing is promised, true is returned.
 pub fn shown_lines_stay(table: &Table) -> Result<bool> {
     let Some(row) = table.row(0) else {
         return Ok(true);
@@ -20,7 +21,7 @@ fn keeps_width(table: &Table) -> bool {
     table.width().is_some() && !matches!(table.content_arrangement(), ContentArrangement::Disabled)
 }
 
-// True if a drawing begins with the lines of another one above its bottom border.
+// Returns true if the drawing of `longer` begins with the lines of `table` above its bottom border.
 fn has_lines_above_bottom(table: &Table, longer: &Table) -> Result<bool> {
     let bottom = table.style().bottom_border;
     let has_bottom = bottom.left.is_some()

@@ -16,17 +16,18 @@ use std::alloc::Global;
 
 const WIDTHS: [u16; 6] = [10, 18, 25, 37, 60, 200];
 
-/// The result for the edges of a table.
+/// The result of a check of the edges of a table.
 #[derive(Clone, Copy)]
 pub struct Edges {
-    /// Their fault, if there is one.
+    /// The fault of the edges, or `None` if they are straight or nothing is promised for them.
     pub fault: Option<&'static str>,
-    /// True if they aren't straight, in a table for which nothing is promised.
+    /// True if the edges aren't straight, in a table for which nothing is promised. This is no
+    /// fault.
     pub are_crooked: bool,
 }
 
-/// The result for the edges of the next random table. They are promised to be straight if the table
-/// is as wide as its texts, whatever these are, and if each character fits its column.
+/// Makes the next random table, and returns the result for its edges. Straight edges are promised
+/// if the table is as wide as its texts, or if each character fits its column.
 pub fn next_edges(alloc: Global, rng: &mut Pcg32) -> Result<Edges> {
     let mut table = Table::new(alloc);
     edges_in(alloc, rng, &mut table)

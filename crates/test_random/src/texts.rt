@@ -39,7 +39,7 @@ const PIECES: [&str; 28] = [
     "\u{feff}",
 ];
 
-// the number of the first pieces that are printable ASCII or line feeds
+// the first 7 pieces are printable ASCII or line feeds
 const PLAIN: usize = 7;
 
 // SGR sequences, and parts of sequences
@@ -59,7 +59,7 @@ const SEQUENCES: [&str; 13] = [
     "\u{1b}",
 ];
 
-// the number of the first ones that are whole sequences
+// the first 5 items of `SEQUENCES` are whole sequences
 const WHOLE: usize = 5;
 
 const DELIMITERS: [char; 15] = [
@@ -67,7 +67,7 @@ const DELIMITERS: [char; 15] = [
     '\r', '\u{0}',
 ];
 
-// the number of the first ones that are printable ASCII
+// the first 6 delimiters are printable ASCII
 const PLAIN_DELIMITERS: usize = 6;
 
 const INDICATORS: [&str; 7] = [
@@ -80,18 +80,18 @@ const INDICATORS: [&str; 7] = [
     "",
 ];
 
-/// The kind of texts in a table.
+/// The kind of texts in a random table.
 #[derive(Clone, Copy)]
 pub struct Kind {
-    /// Texts and delimiters are printable ASCII, except for sequences.
+    /// True if texts and delimiters are printable ASCII, except for line feeds and SGR sequences.
     pub is_printable: bool,
-    /// Texts have SGR sequences that count nothing. Unless texts are printable, they have parts of
-    /// sequences too.
+    /// True if texts have SGR sequences, which take no terminal columns. If `is_printable` is
+    /// false, texts also have parts of sequences.
     pub has_sequences: bool,
 }
 
 impl Kind {
-    /// The kind of texts in the next table.
+    /// Returns a random kind for the texts of the next table.
     pub fn new(rng: &mut Pcg32) -> Kind {
         let is_printable = once_in(rng, 3);
         let has_sequences = once_in(rng, 2);
@@ -102,7 +102,7 @@ impl Kind {
     }
 }
 
-/// A text of up to twelve pieces.
+/// Makes a random text of this kind, from up to twelve pieces.
 pub fn text(alloc: Global, rng: &mut Pcg32, kind: Kind) -> Result<String> {
     let mut text = String::new(alloc);
     for _ in 0..rng.random_range(0u32..13) {
@@ -119,12 +119,12 @@ fn piece(rng: &mut Pcg32, kind: Kind) -> &'static str {
     }
 }
 
-/// A delimiter.
+/// Returns a random delimiter for texts of this kind.
 pub fn delimiter(rng: &mut Pcg32, kind: Kind) -> char {
     one_of(rng, allowed(&DELIMITERS, PLAIN_DELIMITERS, kind), ' ')
 }
 
-// the first `plain` ones if texts are printable, and otherwise all
+// the first `plain` items if texts are printable, and otherwise all items
 fn allowed<'a, T>(all: &'a [T], plain: usize, kind: Kind) -> &'a [T] {
     match all.get(..plain) {
         Some(front) if kind.is_printable => front,
@@ -132,17 +132,17 @@ fn allowed<'a, T>(all: &'a [T], plain: usize, kind: Kind) -> &'a [T] {
     }
 }
 
-/// An indicator of cut lines other than that of a new table.
+/// Returns a random indicator of cut texts, other than that of a new table.
 pub fn indicator(rng: &mut Pcg32) -> &'static str {
     one_of(rng, &INDICATORS, "")
 }
 
-/// One of these values, or `otherwise` if there is none.
+/// Returns one of these values at random, or `otherwise` if there are no values.
 pub fn one_of<T: Copy>(rng: &mut Pcg32, values: &[T], otherwise: T) -> T {
     values.choose(rng).copied().unwrap_or(otherwise)
 }
 
-/// Returns true once in this many times on average, and never for 0.
+/// Returns true once in `times` calls on average. Always returns false if `times` is 0.
 pub fn once_in(rng: &mut Pcg32, times: u32) -> bool {
     if times == 0 {
         return false;

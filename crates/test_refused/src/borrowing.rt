@@ -6,14 +6,15 @@ use crate::outcome::{Outcome, succeeded};
 use comfy_table::{Lines, Result, Table};
 use std::alloc::Global;
 
-/// The outcome of the call with this name on a new table that `fill_worked` fills.
+/// Makes the call with this name on a new table, after `fill_worked` filled it, and returns the
+/// outcome.
 pub fn outcome_of(alloc: Global, table: &mut Table, call: &str) -> Result<Outcome> {
     fill_worked(alloc, table)?;
     outcome_on(table, WORKED, call)
 }
 
-/// The outcome of the call with this name. After a refusal the table is unchanged, and its drawing
-/// has these lines.
+/// Makes the call with this name, and returns the outcome. If the call was refused memory, the
+/// table must be unchanged, and its drawing must have the lines of `wanted`.
 pub fn outcome_on(table: &Table, wanted: &str, call: &str) -> Result<Outcome> {
     let copy = table.clone()?;
     match read(table, call) {
@@ -24,7 +25,7 @@ pub fn outcome_on(table: &Table, wanted: &str, call: &str) -> Result<Outcome> {
     }
 }
 
-// True if the call with this name succeeds, or `None` if there is no such call.
+// Returns true if the call with this name succeeds, or `None` if there is no such call.
 fn read(table: &Table, call: &str) -> Option<bool> {
     let is_read = match call {
         "clone" => succeeded(table.clone()),
@@ -39,7 +40,7 @@ fn read(table: &Table, call: &str) -> Option<bool> {
     Some(is_read)
 }
 
-// True if exactly these lines are left; `wanted` separates them by line feeds.
+// Returns true if `lines` are the lines of `wanted`, which are separated by line feeds.
 fn are_lines(lines: Lines, wanted: &str) -> bool {
     let mut wanted = wanted.split('\n');
     for line in lines {

@@ -1,4 +1,4 @@
-//! Calls of a cell. After a refusal, calls that own the cell leave nothing to check.
+//! Calls of a cell. A call that owns the cell leaves nothing to check if it is refused memory.
 
 use crate::outcome::{Outcome, succeeded};
 use comfy_table::{Attribute, Cell, Result};
@@ -6,7 +6,7 @@ use std::alloc::Global;
 
 const TEXT: &str = "Now\nadd some\nmulti line stuff";
 
-/// The outcome of the call with this name.
+/// Makes the call with this name on a new cell, and returns the outcome.
 pub fn outcome_of(alloc: Global, call: &str) -> Result<Outcome> {
     let result = match call {
         "new" => succeeded(Cell::new(alloc, TEXT)),

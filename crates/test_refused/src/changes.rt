@@ -1,5 +1,5 @@
-//! Calls that change a table. After a refusal all leave it unchanged, except those that add several
-//! rows.
+//! Calls that change a table. If they are refused memory, they leave the table unchanged, except
+//! those that add several rows.
 
 use crate::comparison::difference;
 use crate::fixtures::fill_full;
@@ -11,7 +11,8 @@ use std::alloc::Global;
 // More cells than the table has columns.
 const WIDER: [&str; 5] = ["one", "two", "three", "four", "five"];
 
-/// The outcome of the call with this name on a copy of a new table that `fill_full` fills.
+/// Makes the call with this name on a copy of `source`, after `fill_full` filled it, and returns
+/// the outcome. If the call was refused memory, the copy is compared with `source`.
 pub fn outcome_of(alloc: Global, source: &mut Table, call: &str) -> Result<Outcome> {
     fill_full(alloc, source)?;
     // A copy has no room to spare, so that a further row or column takes memory.
@@ -27,7 +28,7 @@ fn outcome_on(alloc: Global, table: &mut Table, source: &mut Table, call: &str) 
     }
 }
 
-// True if the call with this name succeeds, or `None` if there is no such call.
+// Returns true if the call with this name succeeds, or `None` if there is no such call.
 fn change(table: &mut Table, call: &str) -> Option<bool> {
     let succeeded = match call {
         "discover_columns" => table.discover_columns().is_ok(),
@@ -39,7 +40,8 @@ fn change(table: &mut Table, call: &str) -> Option<bool> {
     Some(succeeded)
 }
 
-// The same for calls that set the header or add a row.
+// Returns true if the call with this name, which sets the header or adds a row, succeeds. `None` if
+// there is no such call.
 fn put_row(table: &mut Table, call: &str) -> Option<bool> {
     let row = WIDER;
     let succeeded = match call {

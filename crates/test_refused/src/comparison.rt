@@ -2,7 +2,8 @@
 
 use comfy_table::{Column, Result, Row, Table};
 
-/// The first part in which two tables differ, the drawing last, or `None` if they are the same.
+/// Returns the name of the first part in which two tables differ, or `None` if they are the same.
+/// The drawings are compared last. The only error is `OutOfMemory`.
 pub fn difference(table: &Table, other: &Table) -> Result<Option<&'static str>> {
     let difference = if !is_same_header(table, other) {
         Some("the header")
@@ -25,7 +26,7 @@ fn is_drawn_alike(table: &Table, other: &Table) -> Result<bool> {
     Ok(text == other.to_text()?)
 }
 
-/// True if two rows have the same cells and the same greatest height.
+/// Returns true if two rows have the same cells and the same greatest height.
 pub fn is_same_row(row: &Row, other: &Row) -> bool {
     row.cell_iter().as_slice() == other.cell_iter().as_slice()
         && row.height_limit() == other.height_limit()

@@ -1,4 +1,5 @@
-//! Conversions that allocate memory. The value that they own is dropped if they are refused.
+//! Conversions that allocate memory. A conversion owns its value, and drops it if memory is
+//! refused.
 
 use crate::outcome::{Outcome, succeeded};
 use comfy_table::{Cell, IntoCell, IntoCells, IntoRow, Result};
@@ -12,7 +13,7 @@ const EIGHT: (&str, u32, bool, char, &str, u8, i64, &str) = (
     TEXT, 17, true, 'x', TEXT, 5, -1, "end",
 );
 
-/// The outcome of the conversion with this name.
+/// Makes the conversion with this name, such as `str::into_cell`, and returns the outcome.
 pub fn outcome_of(alloc: Global, name: &str) -> Result<Outcome> {
     let is_converted = match name {
         "str::into_cell" => succeeded(TEXT.into_cell(alloc)),

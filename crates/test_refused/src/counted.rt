@@ -1,4 +1,5 @@
-//! Calls whose requests `tools/try/refused_requests.sh` counts. They only read the table.
+//! Calls whose requests for memory `tools/try/refused_requests.sh` counts. The calls only read the
+//! table.
 
 use crate::outcome::{Outcome, succeeded};
 use comfy_table::utils::arrangement::arrange_content;
@@ -10,7 +11,7 @@ use std::alloc::Global;
 // Texts that are wider than the room for them.
 const WRAPPED: [&str; 2] = ["Now add some lines", "multi line stuff"];
 
-/// The outcome of the call with this name, with a new table.
+/// Makes the call with this name on a new table, and returns the outcome.
 pub fn outcome_of(alloc: Global, table: &mut Table, call: &str) -> Result<Outcome> {
     match call {
         "format_row" => outcome_of_formatting(alloc, table, "a", 40),
@@ -26,7 +27,7 @@ pub fn outcome_of(alloc: Global, table: &mut Table, call: &str) -> Result<Outcom
     }
 }
 
-// Formats a red cell of 100 words. Each has this many of the characters, and fills the column.
+// Formats a red cell of 100 words. Each word has `count` times the character, and fills the column.
 fn outcome_of_formatting(
     alloc: Global,
     table: &Table,

@@ -36,7 +36,7 @@ const SECOND: [&str; 3] = [
     "smol",
 ];
 
-/// Fills a table with cells that are wrapped, and cut by height.
+/// Fills a table with a header and two rows, whose cells are wrapped and cut at four lines.
 pub fn fill_worked(alloc: Global, table: &mut Table) -> Result<()> {
     table.try_set_header(["Header1", "Header2", "Head"])?;
     add_cut_row(alloc, table, FIRST)?;
@@ -45,7 +45,8 @@ pub fn fill_worked(alloc: Global, table: &mut Table) -> Result<()> {
     Ok(())
 }
 
-/// Fills a table as `fill_worked`, sets more, and adds a cell that no column has yet.
+/// Fills a table as `fill_worked` does, changes other settings, and adds a cell for which the table
+/// has no column yet.
 pub fn fill_full(alloc: Global, table: &mut Table) -> Result<()> {
     fill_worked(alloc, table)?;
     table.try_set_truncation_indicator("...")?;

@@ -2,8 +2,8 @@
 //! was refused memory, the state after it is checked. For a call that adds several rows, standard
 //! error gets the number of rows that are kept.
 //!
-//! The status is 1 if something isn't as promised, or if no call has a name. It is 3, with nothing
-//! printed, if memory was refused outside of the calls. Such a run says nothing about them.
+//! The status is 1 if something isn't as promised, or if a name is that of no call. It is 3 if
+//! memory was refused outside of the calls. Such a run shows nothing about the calls.
 #![tactic(auto)]
 
 mod borrowing;
@@ -58,7 +58,7 @@ fn outcome_of(alloc: Global, name: &str) -> Result<Outcome> {
     outcome_with(alloc, &mut Table::new(alloc), name)
 }
 
-// The same, with a new table for the calls that need one.
+// The outcome of the call with a name; `table` is a new table for the calls that need one.
 fn outcome_with(alloc: Global, table: &mut Table, name: &str) -> Result<Outcome> {
     let Some((kind, call)) = name.split_once("::") else {
         return runs::outcome_of(alloc, name);

@@ -2,28 +2,31 @@
 
 use std::fmt::{self, Formatter, Write};
 
-/// True if a call succeeded, given its result, which is dropped.
+/// Returns true if the result of a call is `Ok`. The result is dropped.
 pub fn succeeded<T: Drop, E: Drop>(returned: Result<T, E>) -> bool {
     returned.is_ok()
 }
 
-/// The outcome of a call.
+/// The outcome of a call that may be refused memory.
 #[derive(Clone, Copy)]
 pub enum Outcome {
-    /// It succeeded.
+    /// The call succeeded.
     Succeeded,
-    /// It was refused memory, and the state after it is as promised.
+    /// The call was refused memory, and the state after it is as promised.
     AsPromised,
-    /// It was refused memory, and this many of its rows are kept, as promised.
+    /// The call was refused memory, and the first rows that it was to add are in the table, as
+    /// promised. The value is their number.
     Kept(usize),
-    /// It was refused memory, and this isn't as promised.
+    /// The call was refused memory, and the state after it isn't as promised. The value names the
+    /// part that is wrong.
     Broken(&'static str),
-    /// No call has this name.
+    /// There is no call with the requested name.
     Unknown,
 }
 
 impl Outcome {
-    /// The outcome of a call whose only promise is that it reports a refusal.
+    /// Returns the outcome of a call after which no state is checked: `Succeeded` if `succeeded` is
+    /// true, and otherwise `AsPromised`.
     pub fn of(succeeded: bool) -> Outcome {
         if succeeded {
             Outcome::Succeeded
@@ -32,8 +35,8 @@ impl Outcome {
         }
     }
 
-    /// The outcome of a call that was refused, given the difference from the promise, if there is
-    /// one.
+    /// Returns the outcome of a call that was refused memory. `difference` names the part of the
+    /// state that isn't as promised, and is `None` if there is no such part.
     pub fn refused(difference: Option<&'static str>) -> Outcome {
         match difference {
             Some(part) => Outcome::Broken(part),
@@ -41,7 +44,7 @@ impl Outcome {
         }
     }
 
-    /// The number of rows that are kept, if the outcome has it.
+    /// Returns the number of rows in `Kept`, and `None` for any other outcome.
     pub fn kept(self) -> Option<usize> {
         match self {
             Outcome::Kept(rows) => Some(rows),
@@ -49,7 +52,7 @@ impl Outcome {
         }
     }
 
-    /// True if nothing is wrong.
+    /// Returns true unless the outcome is `Broken` or `Unknown`.
     pub fn is_good(self) -> bool {
         matches!(
             self,

@@ -6,7 +6,8 @@ use comfy_table::for_records::{LinesCell, RowCell, TextCell};
 use comfy_table::{ArrangedTable, Cell, PartEnds, Result, Table};
 use std::alloc::Global;
 
-/// The outcome of the call with this name on a new table that `fill_worked` fills.
+/// Makes the call with this name on a new table, after `fill_worked` filled it, and returns the
+/// outcome.
 pub fn outcome_of(alloc: Global, table: &mut Table, call: &str) -> Result<Outcome> {
     fill_worked(alloc, table)?;
     outcome_on(alloc, &table.arranged()?, call)
@@ -23,7 +24,7 @@ fn outcome_on(alloc: Global, arranged: &ArrangedTable<&Table>, call: &str) -> Re
 
 const BEFORE: &str = "before\n";
 
-// After a refusal the text is unchanged.
+// If memory is refused, the text must be unchanged.
 fn outcome_of_pushing(alloc: Global, arranged: &ArrangedTable<&Table>) -> Result<Outcome> {
     let mut text = String::from_str(alloc, BEFORE)?;
     if arranged.push_rows(&mut text, 0, 2).is_ok() {
@@ -48,7 +49,7 @@ fn cells(alloc: Global) -> Result<Vec<RowCell<'static>>> {
     Ok(cells)
 }
 
-// The row is drawn below others. After a refusal the text is unchanged.
+// Draws a row below other rows. If memory is refused, the text must be unchanged.
 fn outcome_of_pushing_cells(alloc: Global, arranged: &ArrangedTable<&Table>) -> Result<Outcome> {
     let cells = cells(alloc)?;
     let mut text = String::from_str(alloc, BEFORE)?;

@@ -5,7 +5,8 @@ use crate::outcome::{Outcome, succeeded};
 use comfy_table::{Cell, IntoRow, Result, Row};
 use std::alloc::Global;
 
-/// The outcome of the call with this name: after a refusal the row is unchanged.
+/// Makes the call with this name on a row, and returns the outcome. If the call was refused memory,
+/// the row must be unchanged.
 pub fn outcome_of(alloc: Global, call: &str) -> Result<Outcome> {
     let mut source = ["17", "on the road,\nback at noon"].into_row(alloc)?;
     source.max_height(2);

@@ -1,4 +1,4 @@
-//! A run from bytes to bytes, and the program.
+//! Calls of `run`, which draws from a source to a sink, and of `program`.
 
 use crate::outcome::Outcome;
 use comfy_run::run::{MemorySink, MemorySource, RunError, Settings, program, run};
@@ -21,7 +21,8 @@ const ROOM: usize = 1024;
 
 const NO_MEMORY: &str = "ctable: out of memory\n";
 
-/// The outcome of the call with this name: after a refusal nothing was written.
+/// Makes the call with this name, and returns the outcome. If the call was refused memory, it must
+/// have written no drawing.
 pub fn outcome_of(alloc: Global, name: &str) -> Result<Outcome> {
     let mut sink = MemorySink::new(alloc, ROOM, 0)?;
     let mut messages = MemorySink::new(alloc, ROOM, 0)?;

@@ -1,4 +1,4 @@
-//! Calls that allocate memory for cells with SGR sequences that count nothing.
+//! Calls that allocate memory for cells with SGR sequences, which take no terminal columns.
 
 use crate::borrowing::outcome_on;
 use crate::outcome::{Outcome, succeeded};
@@ -15,7 +15,7 @@ const BOLD: &str = "\
 | \u{1b}[1mdef\u{1b}[0m |
 +-----+";
 
-/// The outcome of the call with this name, with a new table.
+/// Makes the call with this name, on a new table if it needs one, and returns the outcome.
 pub fn outcome_of(alloc: Global, table: &mut Table, name: &str) -> Result<Outcome> {
     match name {
         "Cell::new" => Ok(Outcome::of(succeeded(Cell::new(alloc, TEXT)))),

@@ -1,4 +1,4 @@
-//! Calls that add several rows. If they are refused, the rows before the refused one are in the
+//! Calls that add several rows. If memory is refused for a row, the rows before it are in the
 //! table.
 
 use crate::comparison::difference;
@@ -13,7 +13,8 @@ const ROWS: [&[&str]; 3] = [
     &["one", "two", "three", "four", "five", "six"],
 ];
 
-/// The outcome of the call with this name on a table that is equal to `source`.
+/// Makes the call with this name on `table`, which is equal to `source`, and returns the outcome.
+/// If the call was refused memory, the rows that it added are added to `source` too.
 pub fn outcome_on(
     alloc: Global,
     table: &mut Table,
@@ -27,7 +28,7 @@ pub fn outcome_on(
     }
 }
 
-// True if the call with this name succeeds, or `None` if there is no such call.
+// Returns true if the call with this name succeeds, or `None` if there is no such call.
 fn add(table: &mut Table, rows: Vec<&[&str]>, call: &str) -> Option<bool> {
     let succeeded = match call {
         "add_rows" => table.add_rows(rows).is_ok(),
@@ -38,7 +39,8 @@ fn add(table: &mut Table, rows: Vec<&[&str]>, call: &str) -> Option<bool> {
     Some(succeeded)
 }
 
-/// The predicate that adds each row.
+/// A predicate for calls such as `add_row_if`, which always returns true, so that each row is
+/// added.
 pub fn always<T>(_count: usize, _added: &T) -> bool {
     true
 }

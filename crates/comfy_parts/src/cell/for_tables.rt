@@ -1,6 +1,7 @@
-//! Functions with which a table makes and draws its cells. They give the widths of text lines,
-//! their visible texts, and the texts that are written for the lines of a cell. The module is
-//! public only for the crates that draw tables; programs don't need it.
+//! Functions with which a table makes and draws its cells. They return the widths of text lines,
+//! their visible texts (the texts without colour sequences), and the texts that are written for the
+//! lines of a cell. The module is public only for the crates that draw tables; programs don't need
+//! it.
 
 ghost use Rattle.std.specs.Prelude.{◌≡◌, [], IfOk, None, Some, if◌then◌else◌, length, map, string_bytes, true};
 ghost use Rattle.std.specs.List.{list_any};
@@ -16,9 +17,9 @@ use crate::error::Result;
 use crate::style::CellAlignment;
 use std::alloc::Global;
 
-/// Makes the cell of a printable ASCII text, with this alignment. `None` if the text isn't
-/// printable ASCII. A caller need not test that before, so the bytes are read only once. The only
-/// error is `OutOfMemory`.
+/// Makes a cell of a printable ASCII text, with this alignment and no other setting. The result is
+/// `None` if the text isn't printable ASCII. A caller needs no test of its own, so the bytes are
+/// read only once. The only error is `OutOfMemory`.
 pub fn printable_cell(
     alloc: Global,
     text: &str,
@@ -36,8 +37,9 @@ pub fn printable_cell(
     Ok(Some(Cell::of_lines(alloc, text_lines, alignment)))
 }
 
-/// The text lines in order, and the width of each in terminal columns. If `without_sequences` is
-/// set, they are the visible texts of the text lines. Both were computed when the cell was made.
+/// The text lines of the cell in order, and the width of each in terminal columns. If
+/// `without_sequences` is true, each text line is without its colour sequences. The texts and
+/// widths were computed when the cell was made.
 pub fn measured_lines(cell: &Cell, without_sequences: bool) -> (&[String], &[usize])
     ensures texts { map string_bytes result.0.now
         ≡ (if without_sequences
@@ -53,28 +55,30 @@ pub fn measured_lines(cell: &Cell, without_sequences: bool) -> (&[String], &[usi
     }
 }
 
-/// Returns true if the cell's text contains ESC. Without ESC it contains no sequence.
+/// Returns true if the cell's text contains ESC. A text without ESC has no colour sequence.
 pub fn has_escape(cell: &Cell) -> bool
     ensures { result ≡ list_any has_escape cell.now.text_lines }
 {
     cell.text_lines.has_escape()
 }
 
-/// Returns true only if a text line, as the only line of its cell, is written unchanged with
-/// `custom_styling`. After false it may be unchanged too. The test is faster than a copy of the
-/// text.
+/// Returns true only if this text, as the only line of a cell, is written unchanged after a call of
+/// `Table::custom_styling`. If the result is false, the text may still be written unchanged. The
+/// test is faster than a copy of the text.
 pub fn needs_no_rewrite(text: &str) -> bool
     ensures { result ≡ true → line_text [] text.now 0 (length (visible_text text.now)) ≡ text.now }
 {
     crate::content_split::needs_no_rewrite(text)
 }
 
-/// The texts that are written for the lines of the cell with `custom_styling`, from the top.
+/// The texts that are written for the lines of the cell after a call of `Table::custom_styling`,
+/// from the top.
 ///
-/// The lines are those of `measured_lines` without sequences, wrapped at the column's content
-/// width. A line's text begins with the sequences that are open at its start, and keeps those
-/// between its visible characters. It ends with `ESC[0m` if a sequence is then open. Sequences stay
-/// open into later text lines. The only error is `OutOfMemory`.
+/// The ends of the lines depend only on the text lines without their colour sequences, which are
+/// wrapped at the content width of `info`. A colour sequence is open until the next `ESC[0m`, also
+/// in later text lines. The text of a line begins with the sequences that are open at its start.
+/// Then it has the line's characters with the sequences between them. It ends with `ESC[0m` if a
+/// sequence is then open. The only error is `OutOfMemory`.
 pub fn written_lines(cell: &Cell, info: &ColumnDisplayInfo, delimiter: char) -> Result<Vec<String>>
     ensures { IfOk result (λ texts. map string_bytes texts.items
         ≡ map (λ (line : CellLine). line.written)

@@ -31,8 +31,8 @@ enum Storage {
     Boxed(Box<BoxedLines>),
 }
 
-// Text lines, and their visible texts if one of them contains ESC. The visible texts are stored,
-// because a table reads them several times, and takes no memory for that.
+// Text lines, and their visible texts if a text line contains ESC. The visible texts are stored, so
+// that a table can read them several times without taking memory.
 #[derive(Drop)]
 struct BoxedLines {
     raw: Texts,
@@ -90,8 +90,8 @@ impl TextLines {
         })
     }
 
-    // The general case: any number of lines, with or without ESC. Most texts are a `Plain` line,
-    // and don't come here.
+    // The general case: any number of lines, with or without ESC. Most texts are stored as `Plain`,
+    // and this function isn't called for them.
     #[inline(never)]
     fn several(alloc: Global, text: String) -> Result<TextLines>
         ensures value { IfOk result (λ lines. lines ≡ (plain_cell (string_bytes text)).text_lines) }
@@ -193,7 +193,8 @@ impl Texts {
         found
     }
 
-    // The visible texts. `None` if no text contains ESC.
+    // The visible texts, which are the texts without their colour sequences. `None` if no text
+    // contains ESC.
     fn visible(&self, alloc: Global) -> Result<Option<Texts>>
         ensures { IfOk result (IsVisible self.now) }
     {
@@ -227,12 +228,13 @@ fn visible_lines(alloc: Global, lines: &[String]) -> Result<Texts>
 fn clear_width(text: &str) -> Option<usize>
     ensures { IfSome result (IsClearLine text.now) }
 {
-    // Printable ASCII is such a text, and each of its bytes takes one terminal column.
+    // Printable ASCII is one text line without ESC, and each of its bytes takes one terminal
+    // column.
     if is_printable(text.as_bytes()) {
         return Some(text.len());
     }
-    // A text whose widths add up is one too, because a control character doesn't have a width of
-    // its own.
+    // A text whose characters don't join others is one text line without ESC too, because the sum
+    // is `None` if there is a control character.
     if let Some(columns) = summed_columns(text) {
         return Some(columns);
     }

@@ -5,11 +5,12 @@ ghost use Rattle.std.specs.Char.{is_ascii_digit};
 ghost use Rattle.std.specs.List.{list_all, list_any};
 ghost use Rattle.comfy_parts.specs.Text.{is_printable_ascii};
 
-/// Returns true if all bytes are printable ASCII. Each is then a character of one terminal column.
+/// Returns true if all bytes are printable ASCII, from 0x20 to 0x7E, also if there are no bytes.
+/// Each byte is then a character of one terminal column.
 pub fn is_printable(bytes: &[u8]) -> bool
     ensures { result ≡ is_printable_ascii bytes.now }
 {
-    // Text in most other scripts shows it at its first byte. In other texts all bytes are read
+    // In most other scripts the first byte of a text isn't ASCII. In other texts all bytes are read
     // without a test between them, which is faster for long texts.
     if !bytes.is_empty() && bytes[0] > 0x7e {
         return false;
@@ -22,7 +23,7 @@ pub fn is_printable(bytes: &[u8]) -> bool
     highest <= 0x7e - 0x20
 }
 
-/// Returns true if one of the bytes is below the space, and so a control character.
+/// Returns true if at least one of the bytes is below 0x20. Such a byte is a control character.
 pub fn has_control(bytes: &[u8]) -> bool
     ensures { result ≡ list_any (λ b. nat_lt b 0x20) bytes.now }
 {
@@ -33,7 +34,7 @@ pub fn has_control(bytes: &[u8]) -> bool
     found
 }
 
-/// Returns true if all bytes are digits, also if there are none.
+/// Returns true if all bytes are ASCII digits, also if there are no bytes.
 pub fn are_digits(bytes: &[u8]) -> bool
     ensures { result ≡ list_all is_ascii_digit bytes.now }
 {

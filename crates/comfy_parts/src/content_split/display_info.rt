@@ -16,15 +16,16 @@ use std::marker::Model;
 /// ```
 #[derive(Debug, Drop)]
 pub struct ColumnDisplayInfo {
-    /// The terminal columns left free on the left and on the right of the content, in this order.
+    /// The paddings of the column: the numbers of free terminal columns on the left and on the
+    /// right of the content, in this order.
     pub padding: (u16, u16),
-    /// The character at which the texts of the column may break. A cell's own delimiter comes
-    /// before it. If it is `None`, the delimiter of the table applies.
+    /// The character at which texts of the column's cells may break. A cell's own delimiter takes
+    /// precedence. `None` if the delimiter of the table applies.
     pub delimiter: Option<char>,
-    /// The terminal columns that a line of the content has.
+    /// The width of the column without its paddings, in terminal columns.
     pub content_width: u16,
-    /// The alignment of the column's lines. A cell's own alignment comes before it. If it is
-    /// `None`, the lines are left-aligned.
+    /// The alignment of the lines in the column's cells. A cell's own alignment takes precedence.
+    /// `None` if the lines are left-aligned.
     pub cell_alignment: Option<CellAlignment>,
     is_hidden: bool,
 }
@@ -52,8 +53,8 @@ impl Model for ColumnDisplayInfo {
 }
 
 impl ColumnDisplayInfo {
-    /// Makes an info of a column's settings and the width of its content in terminal columns. A
-    /// width of 0 becomes 1.
+    /// Makes a `ColumnDisplayInfo` of the settings of a column and the width of its content in
+    /// terminal columns, without paddings. A width of 0 becomes 1.
     pub fn new(column: &Column, content_width: u16) -> ColumnDisplayInfo
         ensures { result ≡ info_of column.now content_width }
     {
@@ -66,14 +67,14 @@ impl ColumnDisplayInfo {
         }
     }
 
-    /// The whole width of the column in terminal columns: its content and both paddings.
+    /// The whole width of the column in terminal columns: the content width and both paddings.
     pub fn width(&self) -> usize
         ensures { result ≡ info_width self.now }
     {
         self.padding.0 as usize + self.content_width as usize + self.padding.1 as usize
     }
 
-    /// Returns true if the column isn't drawn.
+    /// Returns true if the column isn't drawn, because its constraint is `Hidden`.
     pub fn is_hidden(&self) -> bool
         ensures { result ≡ self.now.is_hidden }
     {

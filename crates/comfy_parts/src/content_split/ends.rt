@@ -14,7 +14,8 @@ use crate::content_split::own_width::{WIDE_LEN, begins_wide, own_width};
 use crate::content_split::prefix::split_long_word;
 use crate::content_split::width::{char_width, joined_columns};
 
-/// The text from its first character that isn't a delimiter.
+/// The rest of the text from the first character that isn't a delimiter on; empty if there is no
+/// such character.
 pub fn line_start(text: &str, delimiter: char) -> &str
     ensures begins { begins_with delimiter result.now ≡ false }
     ensures bound { length result.now ≤ length text.now }
@@ -23,8 +24,8 @@ pub fn line_start(text: &str, delimiter: char) -> &str
     ensures lines { (w : ℕ) → wrapped w delimiter result.now ≡ wrapped w delimiter text.now }
 {
     let mut rest = text;
-    while let Some(behind) = rest.strip_prefix(delimiter) {
-        rest = behind;
+    while let Some(after) = rest.strip_prefix(delimiter) {
+        rest = after;
     }
     rest
 }
@@ -39,7 +40,8 @@ pub fn first_element(text: &str, delimiter: char) -> (&str, &str)
     }
 }
 
-/// The first element of a text, the text after it, and its width in terminal columns.
+/// The first element of a text (the text before the first delimiter), the text from that delimiter
+/// on, and the width of the element in terminal columns.
 pub fn measured_element(text: &str, delimiter: char) -> (&str, &str, usize)
     ensures element { IsFirstElement delimiter text.now result.0.now result.1.now }
     ensures columns { result.2 ≡ measure result.0.now }
@@ -47,16 +49,16 @@ pub fn measured_element(text: &str, delimiter: char) -> (&str, &str, usize)
 {
     // If the text is printable ASCII up to a delimiter or to its end, one pass over these bytes
     // finds the element and its width.
-    let (word, behind) = text.split_at(printable_run(text.as_bytes(), delimiter));
-    if ends_element(behind, delimiter) {
-        return (word, behind, word.len());
+    let (word, after) = text.split_at(printable_run(text.as_bytes(), delimiter));
+    if ends_element(after, delimiter) {
+        return (word, after, word.len());
     }
-    if let Some((behind, columns)) = summed_element(text, delimiter) {
-        let (word, _) = text.split_at(text.len() - behind.len());
-        return (word, behind, columns);
+    if let Some((after, columns)) = summed_element(text, delimiter) {
+        let (word, _) = text.split_at(text.len() - after.len());
+        return (word, after, columns);
     }
-    let (word, behind) = first_element(text, delimiter);
-    (word, behind, joined_columns(word))
+    let (word, after) = first_element(text, delimiter);
+    (word, after, joined_columns(word))
 }
 
 // The text after the first element, and the width of the element in terminal columns. One pass
@@ -88,14 +90,14 @@ fn summed_element(text: &str, delimiter: char) -> Option<(&str, usize)>
     Some((rest, columns))
 }
 
-// True only if the text after an element is empty or begins with a delimiter.
-fn ends_element(behind: &str, delimiter: char) -> bool
-    ensures { result ≡ true → EndsElement delimiter behind.now }
+// Returns true only if the text after an element is empty or begins with a delimiter.
+fn ends_element(after: &str, delimiter: char) -> bool
+    ensures { result ≡ true → EndsElement delimiter after.now }
 {
-    if behind.is_empty() {
+    if after.is_empty() {
         return true;
     }
-    behind.starts_with(delimiter)
+    after.starts_with(delimiter)
 }
 
 // The number of printable ASCII bytes at the front of a text, before the first delimiter.
@@ -115,7 +117,8 @@ fn printable_run(bytes: &[u8], delimiter: char) -> usize
     run
 }
 
-/// The measure of an element that had no room in a line.
+/// The position and the width of an element (a part of a text between delimiters) that had no room
+/// in a line.
 #[derive(Clone, Copy, Drop)]
 pub struct Measured {
     // the bytes from the first character of the element to the end of the text
@@ -126,21 +129,22 @@ pub struct Measured {
     pub columns: usize,
 }
 
-/// The part of a text that a line takes.
+/// The line at the front of a text: the length in bytes, the width if it is known, and the element
+/// after the line if that element was measured.
 #[derive(Clone, Copy, Drop)]
 pub struct Taken {
     // the bytes of the line
     pub bytes: usize,
-    // the width of the line in terminal columns; `None` if the line ends inside an element, or its
-    // delimiter may not add one terminal column
+    // the width of the line in terminal columns; `None` if the line ends inside an element, or if
+    // `adds_one_column` is false for the delimiter
     pub columns: Option<usize>,
     // the element that had no room, if one was measured
     pub measured: Option<Measured>,
 }
 
-/// The part that the line at the front of a text takes. The first element of the text has `first`
-/// bytes and takes `columns` terminal columns. If the element is wider than a line, `columns` can
-/// be any number above the width of the line.
+/// The line at the front of a text that is wrapped at `width` terminal columns. The first element
+/// of the text has `first` bytes and takes `columns` terminal columns. If the element is wider than
+/// a line, `columns` can be any number above the width of the line.
 pub(crate) fn line_end(
     text: &str,
     first: usize,
@@ -158,7 +162,7 @@ pub(crate) fn line_end(
     ensures measured { IfSome result.measured
         (λ m. IsMeasured delimiter text.now m.left m.first m.columns) }
 {
-    let (word, behind) = text.split_at(first);
+    let (word, after) = text.split_at(first);
     if columns > width {
         return Taken {
             bytes: end_within(word, width),
@@ -166,7 +170,7 @@ pub(crate) fn line_end(
             measured: None,
         };
     }
-    let taken = taken_behind(columns, behind, width, delimiter);
+    let taken = taken_after(columns, after, width, delimiter);
     let columns = if adds_one_column(delimiter) {
         taken.columns
     } else {
@@ -196,18 +200,18 @@ fn end_within(word: &str, width: usize) -> usize
 
 // The part that a line takes after its first element, which is `first` terminal columns wide. The
 // columns of the result are right if the delimiter adds one terminal column between any texts.
-fn taken_behind(first: usize, behind: &str, width: usize, delimiter: char) -> Taken
+fn taken_after(first: usize, after: &str, width: usize, delimiter: char) -> Taken
     requires narrow { width ≤ 65535 }
-    ensures value { (es : List Text) → Follow delimiter es behind.now
+    ensures value { (es : List Text) → Follow delimiter es after.now
         → result.bytes ≡ bytes_taken width delimiter first es }
-    ensures bound { result.bytes ≤ length behind.now + 4 }
+    ensures bound { result.bytes ≤ length after.now + 4 }
     ensures columns { IfSome result.columns
-        (λ n. AddsOneColumn delimiter → FillsTo first n (take result.bytes behind.now)) }
+        (λ n. AddsOneColumn delimiter → FillsTo first n (take result.bytes after.now)) }
     ensures measured { IfSome result.measured
-        (λ m. IsMeasured delimiter behind.now m.left m.first m.columns) }
+        (λ m. IsMeasured delimiter after.now m.left m.first m.columns) }
 {
     let mut filled = first;
-    let mut rest = behind;
+    let mut rest = after;
     while filled <= width.saturating_sub(2) {
         let Some(others) = rest.strip_prefix(delimiter) else {
             break;
@@ -221,7 +225,7 @@ fn taken_behind(first: usize, behind: &str, width: usize, delimiter: char) -> Ta
                 columns,
             };
             return Taken {
-                bytes: behind.len() - rest.len() + part,
+                bytes: after.len() - rest.len() + part,
                 columns: (part == 0).then_some(filled),
                 measured: Some(measured),
             };
@@ -230,7 +234,7 @@ fn taken_behind(first: usize, behind: &str, width: usize, delimiter: char) -> Ta
         rest = following;
     }
     Taken {
-        bytes: behind.len() - rest.len(),
+        bytes: after.len() - rest.len(),
         columns: Some(filled),
         measured: None,
     }

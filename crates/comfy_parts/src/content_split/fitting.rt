@@ -9,9 +9,9 @@ use super::width::char_width;
 
 /// Returns true if each character of the text, by itself, takes at most `width` terminal columns,
 /// and U+FE01 is never directly next to U+FE0E or U+FE0F. Such a text fits a column of this width
-/// in every script: if it is wrapped at a delimiter that adds one terminal column, no line is
-/// wider. Two terminal columns are enough for every character except U+17D8, which takes three. The
-/// second text below is two ideographs, for which one terminal column is too narrow.
+/// in every script: no wrapped line is wider than `width`, if `adds_one_column` is true for the
+/// delimiter. Two terminal columns are enough for every character except U+17D8, which takes three.
+/// The second text below is two ideographs, for which one terminal column is too narrow.
 /// ```
 /// let is_so = characters_fit("كتاب 👨‍👩‍👧", 2) && !characters_fit("年度", 1);
 /// // true

@@ -1,4 +1,4 @@
-//! Tests for characters that add one terminal column next to any text.
+//! Tests for characters that add one terminal column to the width of any texts next to them.
 
 ghost use Rattle.std.specs.Prelude.{◌≡◌, true, unwrap_or};
 ghost use Rattle.std.specs.List.{list_all};
@@ -6,13 +6,14 @@ ghost use Rattle.comfy_parts.specs.Columns.{AddsOneColumn, IsOneColumnStyle, has
 
 use crate::style::TableStyle;
 
-/// Returns true only if the character adds one terminal column between any two texts, of every
-/// script. True for box and block characters, `…`, and printable ASCII except `#`, `*` and the
-/// digits, which a variation selector after them makes wide. False for every other character,
-/// though some of them add one too.
+/// Returns true only if two texts with the character between them always take exactly one terminal
+/// column more than the two texts apart, in every script. The result is true for box and block
+/// characters, `…`, and printable ASCII except `#`, `*` and the digits, which a variation selector
+/// after them makes wide. It is false for every other character, even if that character adds one
+/// terminal column too.
 ///
-/// Tables with straight right edges need this of each character of the style, of the delimiters,
-/// and of the first character of the indicator.
+/// The conditions for tables with straight right edges require a true result for each character of
+/// the style, for the delimiters, and for the first character of the truncation indicator.
 #[tactic(auto, using(crate::proofs::FrameCharacterLemmas::frame_adds))]
 pub fn adds_one_column(character: char) -> bool
     ensures test { result ≡ is_frame_character character }
@@ -33,9 +34,10 @@ fn is_frame_character(character: char) -> bool
 }
 
 impl TableStyle {
-    /// Returns true if each character of the style adds one terminal column between any texts, by
-    /// `adds_one_column`. True for all presets, also rounded or with solid inner borders. It is one
-    /// of the three conditions for straight right edges.
+    /// Returns true if `adds_one_column` is true for each character of the style. Missing
+    /// characters have no influence. The result is true for all presets, also with rounded corners
+    /// or solid inner borders. A true result is one of the conditions under which all lines of a
+    /// table are equally wide (`IsStraightTable`).
     pub fn is_one_column(&self) -> bool
         ensures test { result ≡ has_frame_characters self.now }
         ensures adds { result ≡ true → IsOneColumnStyle self.now }

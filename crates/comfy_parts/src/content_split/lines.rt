@@ -2,7 +2,7 @@
 
 ghost use Rattle.std.specs.Prelude.{◌≡◌, ◌<◌, ◌≤◌, ◌∷◌, [], IfSome, None, false, length, map};
 ghost use Rattle.std.specs.Iterator.{YieldsFirstBy, item_count};
-ghost use Rattle.comfy_parts.specs.Following.{AreColumnsUpTo, IsAtLine, IsMeasuredBehind, IsWideFrom};
+ghost use Rattle.comfy_parts.specs.Following.{AreColumnsUpTo, IsAtLine, IsMeasuredAtEnd, IsWideFrom};
 ghost use Rattle.comfy_parts.specs.Laws.{IsPrintable};
 ghost use Rattle.comfy_parts.specs.Lines.{IsAtNext};
 ghost use Rattle.comfy_parts.specs.Text.{begins_with, greatest, measure};
@@ -19,8 +19,8 @@ use std::marker::Model;
 // very long. Then the word isn't measured as a whole.
 const FAR: usize = 32;
 
-/// The remaining lines of a wrapped text, in order. Each is borrowed from the text, and none takes
-/// memory.
+/// An iterator over the remaining lines of a wrapped text, in order. Each line is borrowed from the
+/// text, and the iterator takes no memory.
 #[derive(Drop)]
 pub struct WrappedLines<'a> {
     // the text from the first character of the next line on
@@ -44,7 +44,8 @@ enum Next {
 struct Element {
     // the bytes of the element
     len: usize,
-    // its width in terminal columns; any number above the width of a line if it is wider than that
+    // the width of the element in terminal columns; if the element is wider than a line, any number
+    // above the width of a line
     columns: usize,
     // each suffix of the element with at least this many bytes is wider than a line; more bytes
     // than the element has if no such number is known
@@ -63,8 +64,8 @@ impl<'a> Model for WrappedLines<'a> {
     ghost invariant = { λ s. IsAtNext s.next s.width s.delimiter s.rest.now };
 }
 
-/// The lines of a text that is wrapped at the column's content width, one after another. They are
-/// the lines of `split_line`.
+/// Returns an iterator over the lines into which `split_line` wraps a text line. The lines are
+/// borrowed from the text, so no memory is taken.
 #[inline(always)]
 pub fn wrapped_lines<'a>(
     line: &'a str,
@@ -78,7 +79,7 @@ pub fn wrapped_lines<'a>(
     if width > 0 && (' '..='~').contains(&delimiter) && is_printable(line.as_bytes()) {
         return printable_lines(line, width, delimiter);
     }
-    lines_behind(line, width, delimiter, None)
+    lines_after(line, width, delimiter, None)
 }
 
 // The lines of a printable ASCII text. Delimiters at its front are skipped.
@@ -103,13 +104,13 @@ fn split_printable_line(text: &str, width: usize, delimiter: char) -> (&str, &st
     ensures begins { begins_with delimiter result.1.now ≡ false }
 {
     let end = printable_line_end(text.as_bytes(), width, delimiter);
-    let (line, behind) = text.split_at(end);
-    (line, line_start(behind, delimiter))
+    let (line, after) = text.split_at(end);
+    (line, line_start(after, delimiter))
 }
 
-// The lines of a text. Delimiters at its front are skipped. If `measured` is the first element
-// after them, and fits a line, it isn't measured again.
-fn lines_behind<'a>(
+// The lines of a text. Delimiters at its front are skipped. If `measured` is about the first
+// element after these delimiters, and the element fits a line, the element isn't measured again.
+fn lines_after<'a>(
     text: &'a str,
     width: usize,
     delimiter: char,
@@ -117,7 +118,7 @@ fn lines_behind<'a>(
 ) -> WrappedLines<'a>
     requires narrow { width ≤ 65535 }
     requires measured { IfSome measured
-        (λ m. IsMeasuredBehind delimiter text.now m.left m.first m.columns) }
+        (λ m. IsMeasuredAtEnd delimiter text.now m.left m.first m.columns) }
     ensures { result ≡ wrapped width delimiter text.now }
 {
     let rest = line_start(text, delimiter);
@@ -142,7 +143,7 @@ fn lines_behind<'a>(
     lines_from(rest, next, width, delimiter)
 }
 
-// The lines of a text whose first line has these known facts.
+// The lines of a text. The facts `next` about its first line are known.
 fn lines_from<'a>(rest: &'a str, next: Next, width: usize, delimiter: char) -> WrappedLines<'a>
     requires at { IsAtNext next width delimiter rest.now }
     ensures { result ≡ wrapped width delimiter rest.now }
@@ -169,23 +170,24 @@ fn split_at_element<'a>(
     ensures columns { IfSome result.1 (λ columns. columns ≡ measure result.0.now) }
 {
     let taken = line_end(rest, element.len, element.columns, width, delimiter);
-    let (line, behind) = rest.split_at(taken.bytes);
+    let (line, after) = rest.split_at(taken.bytes);
     if taken.bytes >= element.len {
-        let lines = lines_behind(behind, width, delimiter, taken.measured);
+        let lines = lines_after(after, width, delimiter, taken.measured);
         return (line, taken.columns, lines);
     }
     // The line ends inside a long element. The rest of the element begins the next line.
     let (len, wide) = (element.len - taken.bytes, element.wide);
-    let columns = columns_up_to(behind.split_at(len).0, wide, width);
+    let columns = columns_up_to(after.split_at(len).0, wide, width);
     let next = Next::Element(Element { len, columns, wide });
-    let lines = lines_from(behind, next, width, delimiter);
+    let lines = lines_from(after, next, width, delimiter);
     (line, taken.columns, lines)
 }
 
 impl<'a> WrappedLines<'a> {
-    /// Returns the next line and its width in terminal columns, or `None` after the last line. A
-    /// line of printable ASCII isn't measured again. Neither is a line of whole words if its
-    /// delimiter is in the list of `adds_one_column`.
+    /// Returns the next line and its width in terminal columns, or `None` after the last line. The
+    /// line itself is measured only if it has a part of a word that is too wide for a line, or if
+    /// `adds_one_column` is false for the delimiter. Otherwise its width is the sum of the widths
+    /// of its words and delimiters, which are known.
     #[inline(always)]
     pub fn next_measured(&mut self) -> Option<(&'a str, usize)>
         ensures ended { result ≡ None → self.old ≡ [] }

@@ -10,12 +10,12 @@ mod table;
 // The table's entry for a character that joins others.
 const JOINS: u32 = 3;
 
-/// The number of bytes of a character for which `begins_wide` is true.
+/// The number of bytes of each character for which `begins_wide` is true.
 pub const WIDE_LEN: usize = 3;
 
 /// Returns true if a text begins with a character from U+4E00 to U+9FFF or from U+B000 to U+CFFF.
-/// Most ideographs and Hangul syllables are among these. Each of them adds two terminal columns to
-/// every text, so it needn't be decoded.
+/// Most ideographs and Hangul syllables are among these characters. Each such character adds two
+/// terminal columns to every text, so it needn't be decoded.
 #[inline]
 pub fn begins_wide(text: &[u8]) -> bool
     ensures { result ≡ begins_wide text.now }
@@ -28,7 +28,8 @@ pub fn begins_wide(text: &[u8]) -> bool
     }
 }
 
-/// The terminal columns that a character adds to every text. `None` if it may join others.
+/// The number of terminal columns that a character adds to every text. `None` if the character may
+/// join others or is a control character.
 #[inline]
 pub fn own_width(character: char) -> Option<usize>
     ensures { result ≡ own_width character }
@@ -40,7 +41,7 @@ pub fn own_width(character: char) -> Option<usize>
     tabled_width(character)
 }
 
-// The width of any character, by the table.
+// Does the same as `own_width`, for any character by the table.
 #[inline]
 fn tabled_width(character: char) -> Option<usize>
     ensures { result ≡ own_width character }

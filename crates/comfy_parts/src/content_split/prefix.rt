@@ -1,4 +1,5 @@
-//! The head of a text for a number of terminal columns.
+//! The head of a text for a number of terminal columns: the longest prefix of whole grapheme
+//! clusters that fits.
 
 ghost use Rattle.std.specs.Prelude.{◌≡◌, ◌++◌, IfSome, IsUtf8, None, length};
 ghost use Rattle.comfy_parts.specs.Following.{EndsHead, IsFirstWide};
@@ -13,7 +14,8 @@ use unicode_width::UnicodeWidthStr;
 const GROWTH: usize = 4;
 
 /// Splits a word into its head and its rest. The head is the longest prefix of whole grapheme
-/// clusters whose measures add up to at most `allowed_width` terminal columns. It takes no memory.
+/// clusters whose widths add up to at most `allowed_width` terminal columns. The call takes no
+/// memory.
 pub fn split_long_word(allowed_width: usize, word: &str) -> (&str, &str)
     ensures head { result.0.now ≡ head allowed_width word.now }
     ensures rest { result.0.now ++ result.1.now ≡ word.now }
@@ -30,7 +32,7 @@ pub fn split_long_word(allowed_width: usize, word: &str) -> (&str, &str)
     word.split_at(end_by_clusters(word, allowed_width))
 }
 
-// The end of a word's head, found by its grapheme clusters up to there.
+// The end of a word's head, found by measuring the word's grapheme clusters up to that end.
 fn end_by_clusters(word: &str, columns: usize) -> usize
     ensures { EndsHead columns word.now result }
 {
@@ -77,22 +79,24 @@ fn shown_end(front: &str, columns: usize) -> Option<usize>
 // A grapheme cluster that is wider than the terminal columns that are left for it.
 #[derive(Clone, Copy)]
 struct WideCluster {
-    // the position of its first byte in the text
+    // the position of the cluster's first byte in the text
     at: usize,
-    // its bytes
+    // the length of the cluster in bytes
     len: usize,
-    // the terminal columns by which it is too wide
+    // the number of terminal columns by which the cluster is too wide
     beyond: usize,
 }
 
-// The first cluster that has no room in these terminal columns after the clusters before it.
+// The first cluster that has no room in `columns` terminal columns after the clusters before it.
+// `None` if all clusters have room.
 fn first_wide_cluster(text: &str, columns: usize) -> Option<WideCluster>
     ensures some { IfSome result (λ wide.
         IsFirstWide columns text.now wide.at wide.len wide.beyond) }
     ensures none { result ≡ None → EndsHead columns text.now (length text.now) }
 {
     let mut left = columns;
-    // Most clusters of such a text aren't ASCII, so a test for printable ASCII isn't worthwhile.
+    // Texts of printable ASCII don't come here, so a test of each cluster for printable ASCII isn't
+    // worthwhile.
     for (at, cluster) in text.grapheme_indices(true) {
         let width = cluster.width();
         if width > left {

@@ -7,8 +7,8 @@ ghost use Rattle.comfy_parts.specs.Laws.{IsPrintable};
 ghost use Rattle.comfy_parts.specs.Text.{Text, begins_with, greatest, measure};
 ghost use Rattle.comfy_parts.specs.Wrapping.{line_end, wrapped};
 
-/// The width in terminal columns of the longest line that a printable ASCII text is wrapped into.
-/// The lines themselves aren't made.
+/// The width in terminal columns of the longest line into which a printable ASCII text is wrapped,
+/// 0 if there is no line. The lines themselves aren't made.
 pub fn printable_longest_line(text: &[u8], width: usize, delimiter: char) -> usize
     requires printable { IsPrintable width delimiter text.now }
     ensures { result ≡ greatest (map measure (wrapped width delimiter text.now)) }
@@ -23,8 +23,8 @@ pub fn printable_longest_line(text: &[u8], width: usize, delimiter: char) -> usi
     longest
 }
 
-// The end of the first part of the text, a delimiter or a line, and the width of that line in
-// terminal columns. The width of a delimiter is 0, because no line has it.
+// The end of the first part of the text, which is a delimiter or a line, and the width of that line
+// in terminal columns. For a delimiter the width is 0, because it is left out between lines.
 fn part_at_front(text: &[u8], width: usize, delimiter: char) -> (usize, usize)
     requires printable { IsPrintable width delimiter text.now }
     requires some { 0 < length text.now }
@@ -40,7 +40,8 @@ fn part_at_front(text: &[u8], width: usize, delimiter: char) -> (usize, usize)
     (end, end)
 }
 
-/// The end of the line that begins at the front of a printable ASCII text.
+/// The number of bytes of the line at the front of a printable ASCII text, which is wrapped at
+/// `width` terminal columns. The text doesn't begin with a delimiter.
 pub fn printable_line_end(text: &[u8], width: usize, delimiter: char) -> usize
     requires printable { IsPrintable width delimiter text.now }
     requires begins { begins_with delimiter text.now ≡ false }
@@ -65,7 +66,7 @@ pub fn printable_line_end(text: &[u8], width: usize, delimiter: char) -> usize
     end
 }
 
-// The end of a line that fills the width, and that the end of the text or a delimiter follows. A
+// The end of a line that fills the width, and is followed by a delimiter or the end of the text. A
 // delimiter in the line's last column is left out.
 fn last_column(text: &[u8], width: usize, delimiter: char) -> usize
     requires printable { IsPrintable width delimiter text.now }

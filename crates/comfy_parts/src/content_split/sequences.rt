@@ -19,7 +19,7 @@ const ESC: u8 = 0x1b;
 // The sequence that closes all others.
 pub(crate) const RESET: &str = "\u{1b}[0m";
 
-/// Returns true if a text contains ESC. A text without ESC has no sequence.
+/// Returns true if a text contains ESC. A text without ESC has no colour sequence.
 pub(crate) fn has_escape(text: &str) -> bool
     ensures { result ≡ has_escape text.now }
 {
@@ -36,11 +36,11 @@ pub(crate) fn has_escape(text: &str) -> bool
 #[derive(Clone, Copy)]
 pub(crate) enum TextPart<'a> {
     Sequence(&'a str),
-    // visible text up to the next ESC, which may begin with an ESC that begins no sequence
+    // visible text up to the next ESC; its own first byte may be an ESC that begins no sequence
     Visible(&'a str),
 }
 
-/// The remaining parts of a text, in order.
+/// An iterator over the remaining parts of a text, in order.
 #[derive(Drop)]
 pub(crate) struct TextParts<'a>(&'a str);
 
@@ -65,8 +65,9 @@ impl<'a> Iterator for TextParts<'a> {
     }
 }
 
-/// The visible text of a text: the text without its sequences. Bytes that come together because a
-/// sequence between them is removed don't become a sequence. The only error is `OutOfMemory`.
+/// The visible text of a text, which is the text without its colour sequences (SGR). The text is
+/// searched once: bytes that form a sequence only after another sequence is removed stay in the
+/// text. The only error is `OutOfMemory`.
 pub fn visible_text(alloc: Global, text: &str) -> Result<String>
     ensures { IfOk result (λ visible. string_bytes visible ≡ visible_text text.now) }
 {
@@ -79,7 +80,8 @@ pub fn visible_text(alloc: Global, text: &str) -> Result<String>
     Ok(joined)
 }
 
-/// Returns true if a text leaves a sequence open: its last sequence isn't `ESC[0m`.
+/// Returns true if a text leaves a colour sequence (SGR) open: it has a sequence, and its last
+/// sequence isn't `ESC[0m`.
 pub fn leaves_sequence_open(text: &str) -> bool
     ensures { result ≡ not (length (open_after (parts text.now)) == 0) }
 {
@@ -114,7 +116,7 @@ pub(crate) fn split_visible(text: &str, most: usize) -> (&str, &str)
     requires fits { most ≤ length text.now → IsUtf8 (take most (visible_text text.now)) }
     ensures parts { parts text.now ≡ map visible_part result.0.now ++ parts result.1.now }
     ensures whole { IsUtf8 result.0.now }
-    ensures whole_behind { IsUtf8 result.1.now }
+    ensures whole_after { IsUtf8 result.1.now }
     ensures within { length result.0.now ≤ most }
     ensures some { 0 < most → 0 < length text.now → 0 < length result.0.now }
     ensures next { length result.0.now < most → 0 < length result.1.now
@@ -133,7 +135,8 @@ pub(crate) fn split_visible(text: &str, most: usize) -> (&str, &str)
     text.split_at(run)
 }
 
-/// The length in bytes of the sequence at the front of a text, 0 if there is none.
+/// The length in bytes of the colour sequence (SGR) at the front of a text, 0 if the text doesn't
+/// begin with one. A sequence is ESC, `[`, any number of digits, `;` and `:`, then `m`.
 pub fn sequence_len(text: &str) -> usize
     ensures value { result ≡ sequence_len text.now }
     ensures boundary { IsCharBoundary text.now result }
@@ -153,7 +156,7 @@ pub fn sequence_len(text: &str) -> usize
     }
 }
 
-// Returns true if the byte is a digit, `;` or `:`.
+// Returns true if the byte is a digit, `;` or `:`, which are the bytes between ESC `[` and `m`.
 fn is_parameter(byte: u8) -> bool
     ensures { result ≡ is_parameter byte }
 {

@@ -12,8 +12,8 @@ use unicode_width::UnicodeWidthStr;
 // The search for the shortest wide suffix stops within this many bytes.
 const CLOSE: usize = 8;
 
-/// The width of a text in terminal columns, by the Unicode rules for terminals. It is at most two
-/// for each byte of the text.
+/// The width of a text in terminal columns, by the rules of the crate `unicode_width`. The width is
+/// at most two for each byte of the text.
 pub fn measure_text_width(text: &str) -> usize
     ensures value { result ≡ measure text.now }
     ensures bound { result ≤ 2 * length text.now }
@@ -27,9 +27,9 @@ pub fn measure_text_width(text: &str) -> usize
     joined_columns(text)
 }
 
-/// The width of a text whose characters join no other, as the sum of their widths, counted in one
-/// pass. `None` if a character may join others. A text with a width here has no control character,
-/// so it is one text line without ESC.
+/// The width in terminal columns of a text whose characters don't join others. It is the sum of the
+/// widths of the characters, counted in one pass. The result is `None` if a character may join
+/// others or is a control character. So a text with a width here is one text line without ESC.
 pub fn summed_columns(text: &str) -> Option<usize>
     ensures clear { IfSome result (IsClearLine text.now) }
     ensures bound { IfSome result (λ columns. columns ≤ 2 * length text.now) }
@@ -49,7 +49,8 @@ pub fn summed_columns(text: &str) -> Option<usize>
     Some(columns)
 }
 
-/// The width of a text in terminal columns, by rules that know how characters join.
+/// The width of a text in terminal columns, also if its characters join each other, as those of an
+/// emoji sequence do.
 pub fn joined_columns(text: &str) -> usize
     ensures value { result ≡ measure text.now }
     ensures bound { result ≤ 2 * length text.now }
@@ -57,9 +58,9 @@ pub fn joined_columns(text: &str) -> usize
     text.width()
 }
 
-/// A number of bytes that shows that a word is wider than `columns` terminal columns: each suffix
-/// of the word with at least this many bytes is wider. If no number shows it, the result is greater
-/// than the length of the word.
+/// A number of bytes for a word: each suffix of the word with at least this many bytes is wider
+/// than `columns` terminal columns. If no such number is found, the result is greater than the
+/// word's length in bytes.
 pub fn wide_end(word: &str, columns: usize) -> usize
     ensures { IsWideFrom columns result word.now }
 {
@@ -77,8 +78,9 @@ pub fn wide_end(word: &str, columns: usize) -> usize
     wide
 }
 
-// The length of the first suffix that shows that the word is wide, where each suffix that is tried
-// is twice as long as the one before it. If none shows it, the length of the word plus 1.
+// Tries suffixes of the word, each twice as long as the one before it. Returns the length of the
+// first suffix that shows that the word is wide. If none shows it, the result is the length of the
+// word plus 1.
 fn first_wide_end(word: &str, columns: usize) -> usize
     ensures { IsWideFrom columns result word.now }
 {
@@ -105,7 +107,7 @@ fn shows_wide(end: &str, columns: usize) -> bool
     measure_text_width(end) > columns.saturating_add(1)
 }
 
-/// The width in terminal columns of a text that is this character alone.
+/// The width in terminal columns of a text that consists of this character alone.
 pub fn char_width(character: char) -> usize
     ensures value { result ≡ measure (encode_utf8 character) }
     ensures bound { result ≤ 8 }

@@ -30,7 +30,7 @@ impl<T: Drop> Items for Vec<T> {
     ghost items_of = { λ values. values.items };
 
     ghost gives_items = { λ values from made. record {
-      may_be_asked = tt;
+      can_be_called = tt;
       ends = tt;
       in_order = vec_gives from values.items made.0;
     } };
@@ -40,7 +40,7 @@ impl<T: Drop> Items for vec::IntoIter<T> {
     ghost items_of = { λ values. into_iter_items values };
 
     ghost gives_items = { λ values from made. record {
-      may_be_asked = tt;
+      can_be_called = tt;
       ends = tt;
       in_order = vec_gives from (into_iter_items values) (ap into_iter_items made);
     } };
@@ -50,7 +50,7 @@ impl<T: Drop, const N: usize> Items for [T; N] {
     ghost items_of = { λ values. values };
 
     ghost gives_items = { λ values from made. record {
-      may_be_asked = tt;
+      can_be_called = tt;
       ends = tt;
       in_order = array_gives from values made.0;
     } };

@@ -1,7 +1,7 @@
 //! Attributes of a text in a terminal, besides its colours.
 
-/// An attribute of a text in a terminal. Without the sequences that are written for it, the second
-/// line of this example is `| Sum |`.
+/// An attribute of a text in a terminal, such as bold. Without the escape sequences that are
+/// written for the attribute, the second line of this example is `| Sum |`.
 ///
 /// ```
 /// let mut table = Table::new(alloc);
@@ -17,33 +17,33 @@
 pub enum Attribute {
     /// Ends all attributes and colours.
     Reset,
-    /// Bold, or brighter.
+    /// The text is bold, or brighter than normal text.
     Bold,
-    /// Less bright.
+    /// The text is less bright than normal text.
     Dim,
-    /// Italic.
+    /// The text is in italics.
     Italic,
-    /// Underlined.
+    /// The text has a line below it.
     Underlined,
-    /// Underlined twice.
+    /// The text has two lines below it.
     DoubleUnderlined,
-    /// Underlined by a wave.
+    /// The text has a wavy line below it.
     Undercurled,
-    /// Underlined by dots.
+    /// The text has a dotted line below it.
     Underdotted,
-    /// Underlined by dashes.
+    /// The text has a dashed line below it.
     Underdashed,
-    /// Blinks less than 150 times a minute.
+    /// The text blinks less than 150 times a minute.
     SlowBlink,
-    /// Blinks 150 times a minute or more.
+    /// The text blinks 150 times a minute or more.
     RapidBlink,
     /// Text and background colours are swapped.
     Reverse,
-    /// Not shown.
+    /// The text isn't shown.
     Hidden,
-    /// Crossed out.
+    /// The text has a line through it.
     CrossedOut,
-    /// In blackletter.
+    /// The text is in blackletter.
     Fraktur,
     /// Ends `Bold`.
     NoBold,
@@ -61,11 +61,11 @@ pub enum Attribute {
     NoHidden,
     /// Ends `CrossedOut`.
     NotCrossedOut,
-    /// In a frame.
+    /// The text has a frame around it.
     Framed,
-    /// In a circle.
+    /// The text has a circle around it.
     Encircled,
-    /// With a line above.
+    /// The text has a line above it.
     OverLined,
     /// Ends `Framed` and `Encircled`.
     NotFramedOrEncircled,

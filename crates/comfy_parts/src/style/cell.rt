@@ -19,11 +19,11 @@
 /// ```
 #[derive(Copy, Clone, Debug, PartialEq, Eq, Hash)]
 pub enum CellAlignment {
-    /// At the left.
+    /// The line is at the left end of the column's content width.
     Left,
-    /// At the right.
+    /// The line is at the right end of the column's content width.
     Right,
-    /// In the middle. If an odd number of terminal columns is free, the left side gets one more
-    /// than the right side.
+    /// The line is in the middle of the column's content width. If an odd number of terminal
+    /// columns is free, the left side gets one more than the right side.
     Center,
 }

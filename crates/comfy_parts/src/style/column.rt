@@ -9,8 +9,9 @@
 pub enum Width {
     /// This many terminal columns.
     Fixed(u16),
-    /// This many percent, at most 100, of the table's width minus its border characters. If the
-    /// table's width isn't known, a constraint with this width is ignored.
+    /// This many percent of the table's width minus its border characters, rounded down. A number
+    /// above 100 counts as 100. If the table's width isn't known, a constraint with this width is
+    /// ignored.
     Percentage(u16),
 }
 
@@ -37,7 +38,8 @@ pub enum ColumnConstraint {
     Hidden,
     /// The column is exactly as wide as its content and its paddings.
     ContentWidth,
-    /// The column has this width, but at least that of its paddings and one terminal column.
+    /// The column has this width. If its paddings leave no room, it is as wide as its paddings and
+    /// one terminal column.
     Absolute(Width),
     /// The column is at least this wide, if the arrangement allows it.
     LowerBoundary(Width),

@@ -44,7 +44,8 @@
 //!                       ───────────────
 //! ```
 //!
-//! `load_style` sets a preset, changed or not, and `by_name` finds one by its name:
+//! `load_style` sets the style of a table, which may be a preset or a changed preset. `by_name`
+//! finds a preset by its name:
 //!
 //! ```
 //! table.load_style(UTF8_FULL.with_rounded_corners());
@@ -162,7 +163,7 @@ const UTF8_OPEN_LINE: LineStyle = LineStyle {
     right: None,
 };
 
-/// All borders, of ASCII characters. The style of a new table.
+/// Lines everywhere, in ASCII. A new table has this style.
 ///
 /// ```text
 /// +-------+-------+
@@ -187,8 +188,7 @@ pub const ASCII_FULL: TableStyle = TableStyle {
     bottom_border: ASCII_BORDER,
 };
 
-/// Outer borders, lines between columns and the header's separator, of ASCII characters. No lines
-/// between rows.
+/// Lines everywhere except between rows, in ASCII.
 ///
 /// ```text
 /// +-------+-------+
@@ -207,7 +207,7 @@ pub const ASCII_FULL_CONDENSED: TableStyle = TableStyle {
     bottom_border: ASCII_BORDER,
 };
 
-/// Lines between columns and between rows, of ASCII characters. No outer borders.
+/// Lines everywhere except around the table, in ASCII.
 ///
 /// ```text
 ///  Hello | there
@@ -230,7 +230,7 @@ pub const ASCII_NO_BORDERS: TableStyle = TableStyle {
     bottom_border: NO_LINE,
 };
 
-/// Outer borders and the header's separator, of ASCII characters. A line of spaces between rows.
+/// Lines around the table and below the header, in ASCII, and a line of spaces between rows.
 ///
 /// ```text
 /// +---------------+
@@ -255,7 +255,7 @@ pub const ASCII_BORDERS_ONLY: TableStyle = TableStyle {
     bottom_border: ASCII_PLAIN_BORDER,
 };
 
-/// Outer borders and the header's separator, of ASCII characters. No lines between rows.
+/// Lines around the table and below the header, in ASCII.
 ///
 /// ```text
 /// +---------------+
@@ -274,7 +274,7 @@ pub const ASCII_BORDERS_ONLY_CONDENSED: TableStyle = TableStyle {
     bottom_border: ASCII_PLAIN_BORDER,
 };
 
-/// Only horizontal lines, of ASCII characters.
+/// Horizontal lines alone, in ASCII.
 ///
 /// ```text
 /// ---------------
@@ -294,7 +294,8 @@ pub const ASCII_HORIZONTAL_ONLY: TableStyle = TableStyle {
     bottom_border: ASCII_OPEN_LINE,
 };
 
-/// A Markdown table.
+/// The lines of a table for Markdown. Texts aren't escaped. A row with more than one line breaks
+/// the table.
 ///
 /// ```text
 /// | Hello | there |
@@ -316,7 +317,7 @@ pub const ASCII_MARKDOWN: TableStyle = TableStyle {
     bottom_border: NO_LINE,
 };
 
-/// All borders, of box drawing characters.
+/// Lines everywhere, of box drawing characters.
 ///
 /// ```text
 /// ┌───────┬───────┐
@@ -356,8 +357,7 @@ pub const UTF8_FULL: TableStyle = TableStyle {
     },
 };
 
-/// Outer borders, lines between columns and the header's separator, of box drawing characters. No
-/// lines between rows.
+/// Lines everywhere except between rows, of box drawing characters.
 ///
 /// ```text
 /// ┌───────┬───────┐
@@ -391,7 +391,7 @@ pub const UTF8_FULL_CONDENSED: TableStyle = TableStyle {
     },
 };
 
-/// Lines between columns and between rows, of box drawing characters. No outer borders.
+/// Lines everywhere except around the table, of box drawing characters.
 ///
 /// ```text
 ///  Hello ┆ there
@@ -419,7 +419,7 @@ pub const UTF8_NO_BORDERS: TableStyle = TableStyle {
     bottom_border: NO_LINE,
 };
 
-/// Outer borders and the header's separator, of box drawing characters.
+/// Lines around the table and below the header, of box drawing characters.
 ///
 /// ```text
 /// ┌───────────────┐
@@ -453,7 +453,7 @@ pub const UTF8_BORDERS_ONLY: TableStyle = TableStyle {
     },
 };
 
-/// Only horizontal lines, of box drawing characters.
+/// Horizontal lines alone, of box drawing characters.
 ///
 /// ```text
 /// ───────────────
@@ -478,7 +478,7 @@ pub const UTF8_HORIZONTAL_ONLY: TableStyle = TableStyle {
     bottom_border: UTF8_OPEN_LINE,
 };
 
-/// No lines at all.
+/// No lines: only the texts of cells, with their paddings.
 ///
 /// ```text
 ///  Hello  there
@@ -494,8 +494,8 @@ pub const NOTHING: TableStyle = TableStyle {
     bottom_border: NO_LINE,
 };
 
-/// All presets with their names. A name is that of the constant. The position of a preset never
-/// changes, because programs in other languages choose presets by position.
+/// All presets, each with its name, which is the name of its constant. The position of a preset
+/// never changes, because programs in other languages choose presets by position.
 pub static ALL: [(&str, TableStyle); 13] = [
     ("ASCII_FULL", ASCII_FULL),
     ("ASCII_FULL_CONDENSED", ASCII_FULL_CONDENSED),
@@ -512,7 +512,7 @@ pub static ALL: [(&str, TableStyle); 13] = [
     ("NOTHING", NOTHING),
 ];
 
-/// The preset whose constant has this name. `None` if no preset has it.
+/// The preset whose constant has this name, in capitals. `None` if no preset has this name.
 ///
 /// ```
 /// table.load_style(by_name("UTF8_FULL").unwrap_or(ASCII_FULL));
@@ -529,7 +529,7 @@ pub fn by_name(name: &str) -> Option<TableStyle>
 }
 
 /// The preset at this position of `ALL`, counted from 0: `ASCII_FULL` comes first, `NOTHING` last.
-/// `None` at a greater position.
+/// `None` if the position is the number of presets or greater.
 ///
 /// ```
 /// let is_so = by_position(7) == Some(UTF8_FULL);
@@ -547,7 +547,7 @@ pub fn by_position(position: usize) -> Option<TableStyle>
 
 /// Each preset has the characters of its definition in `specs/Presets`. The function does nothing:
 /// its clauses are the law.
-pub fn presets_are_as_tabled()
+pub fn presets_are_as_defined()
     ensures of_ascii_full { ASCII_FULL ≡ ascii_full }
     ensures of_ascii_full_condensed { ASCII_FULL_CONDENSED ≡ ascii_full_condensed }
     ensures of_ascii_no_borders { ASCII_NO_BORDERS ≡ ascii_no_borders }

@@ -19,12 +19,13 @@
 pub enum ContentArrangement {
     /// Each column is as wide as its content, unless its constraint fixes or limits the width.
     Disabled,
-    /// If the table's width is known, contents are wrapped so that the table isn't wider. It is
-    /// wider only if its columns can't be narrow enough: each has at least one terminal column, and
-    /// constraints can require more. If no width is known, this is the same as `Disabled`.
+    /// Contents are wrapped so that the table isn't wider than its width, if its columns can be
+    /// narrow enough for that. Each column has at least one terminal column, and constraints can
+    /// require more. If no width is known, `Dynamic` does the same as `Disabled`.
     Dynamic,
-    /// Like `Dynamic`, but the table fills its width. If no column is left that shares the rest of
-    /// the width evenly, the rest is spread over all shown columns, also over those with a
-    /// constraint.
+    /// Contents are wrapped as under `Dynamic`, and the table fills its width. Terminal columns
+    /// that are left over after each column has a width are divided evenly among all shown columns,
+    /// also those with a constraint. If no width is known, `DynamicFullWidth` does the same as
+    /// `Disabled`.
     DynamicFullWidth,
 }

@@ -6,10 +6,11 @@ ghost use Rattle.comfy_parts.specs.Columns.{style_characters};
 ghost use Rattle.comfy_parts.specs.Presets.{nothing};
 ghost use Rattle.comfy_parts.specs.StyleModifiers.{with_rounded_corners, with_solid_inner_borders, RoundingTwiceIsOnce, SolidTwiceIsOnce};
 
-/// A horizontal line of the frame. If none of its parts is set, it isn't drawn.
+/// The characters of a horizontal line of the frame. If none of them is set, the line isn't drawn.
 ///
-/// A missing fill is a space. A missing left, right or junction character is a space if another
-/// line of the style has a character there. If no line has one, it takes no terminal column.
+/// A missing fill is drawn as spaces. A missing left, right or junction character is drawn as a
+/// space if another line of the style has a character at the same place. If no line of the style
+/// has one there, the place takes no terminal column.
 ///
 /// ```text
 /// ├╌╌╌╌╌╌╌╌┼╌╌╌╌╌╌╌╌┤
@@ -23,13 +24,16 @@ ghost use Rattle.comfy_parts.specs.StyleModifiers.{with_rounded_corners, with_so
 /// ```
 #[derive(Copy, Clone, Debug, Default, PartialEq, Eq)]
 pub struct LineStyle {
-    /// The left border's character.
+    /// The character of the left border. `None` is drawn as a space if another line of the style
+    /// has a left character, and takes no terminal column otherwise.
     pub left: Option<char>,
-    /// The character that fills the widths of the columns.
+    /// The character that fills the widths of the columns. `None` is drawn as spaces.
     pub fill: Option<char>,
-    /// The character between two columns.
+    /// The character between two columns. `None` is drawn as a space if another line of the style
+    /// has a junction, and takes no terminal column otherwise.
     pub junction: Option<char>,
-    /// The right border's character.
+    /// The character of the right border. `None` is drawn as a space if another line of the style
+    /// has a right character, and takes no terminal column otherwise.
     pub right: Option<char>,
 }
 
@@ -99,10 +103,10 @@ impl LineStyle {
     }
 }
 
-/// The characters of a line with contents.
+/// The characters of a line with the contents of cells.
 ///
-/// A missing character is a space if another line of the style has a character there. If no line
-/// has one, it takes no terminal column.
+/// A missing character is drawn as a space if another line of the style has a character at the same
+/// place. If no line of the style has one there, the place takes no terminal column.
 ///
 /// ```text
 /// │ Hello  ┆ there  │
@@ -116,11 +120,14 @@ impl LineStyle {
 /// ```
 #[derive(Copy, Clone, Debug, Default, PartialEq, Eq)]
 pub struct ContentLineStyle {
-    /// The left border's character.
+    /// The character of the left border. `None` is drawn as a space if another line of the style
+    /// has a left character, and takes no terminal column otherwise.
     pub left: Option<char>,
-    /// The character between two columns.
+    /// The character between two columns. `None` is drawn as a space if another line of the style
+    /// has a junction, and takes no terminal column otherwise.
     pub junction: Option<char>,
-    /// The right border's character.
+    /// The character of the right border. `None` is drawn as a space if another line of the style
+    /// has a right character, and takes no terminal column otherwise.
     pub right: Option<char>,
 }
 
@@ -207,11 +214,11 @@ impl ContentLineStyle {
 pub struct TableStyle {
     /// The frame line above the table.
     pub top_border: LineStyle,
-    /// The characters in the lines of the header.
+    /// The characters before, between and after the cells of the header.
     pub header_lines: ContentLineStyle,
     /// The frame line below the header.
     pub header_separator: LineStyle,
-    /// The characters in the lines of rows.
+    /// The characters before, between and after the cells of a row.
     pub content_lines: ContentLineStyle,
     /// The frame line between two rows.
     pub row_separator: LineStyle,
@@ -244,7 +251,7 @@ impl TableStyle {
         }
     }
 
-    /// Sets the characters in the lines of the header.
+    /// Sets the characters before, between and after the cells of the header.
     pub fn header_lines(self, line: ContentLineStyle) -> TableStyle
         ensures { result ≡ record self { header_lines = line } }
     {
@@ -264,7 +271,7 @@ impl TableStyle {
         }
     }
 
-    /// Sets the characters in the lines of rows.
+    /// Sets the characters before, between and after the cells of a row.
     pub fn content_lines(self, line: ContentLineStyle) -> TableStyle
         ensures { result ≡ record self { content_lines = line } }
     {
@@ -294,7 +301,8 @@ impl TableStyle {
         }
     }
 
-    /// Returns true if lines begin with a border: any of the six lines has a left character.
+    /// Returns true if lines begin with a border: any of the six kinds of lines has a left
+    /// character.
     pub fn draws_left_border(&self) -> bool
         ensures { result ≡ draws_left_border self.now }
     {
@@ -306,7 +314,8 @@ impl TableStyle {
             || self.bottom_border.left.is_some()
     }
 
-    /// Returns true if lines end with a border: any of the six lines has a right character.
+    /// Returns true if lines end with a border: any of the six kinds of lines has a right
+    /// character.
     pub fn draws_right_border(&self) -> bool
         ensures { result ≡ draws_right_border self.now }
     {
@@ -318,8 +327,8 @@ impl TableStyle {
             || self.bottom_border.right.is_some()
     }
 
-    /// Returns true if vertical lines are drawn between the columns: any of the six lines has a
-    /// junction.
+    /// Returns true if vertical lines are drawn between the columns: any of the six kinds of lines
+    /// has a junction.
     pub fn draws_vertical_lines(&self) -> bool
         ensures { result ≡ draws_vertical_lines self.now }
     {
@@ -331,7 +340,8 @@ impl TableStyle {
             || self.bottom_border.junction.is_some()
     }
 
-    /// All characters, line by line from the top. A content line has no fill.
+    /// All characters, line by line from the top, and in each line from left to right with the fill
+    /// after the left character. A content line has no fill.
     pub(crate) fn characters(&self) -> [Option<char>; 22]
         ensures { result ≡ style_characters self.now }
     {
@@ -363,7 +373,8 @@ impl TableStyle {
         ]
     }
 
-    /// Rounds the four outer corners.
+    /// Replaces the characters of the four outer corners by `╭`, `╮`, `╰` and `╯`. A corner that
+    /// isn't set is set too.
     ///
     /// ```text
     /// ╭───────┬───────╮
@@ -383,7 +394,8 @@ impl TableStyle {
         }
     }
 
-    /// Makes the lines between columns and between rows solid.
+    /// Makes the lines between columns and between rows solid. A style without lines between rows
+    /// gets such lines.
     ///
     /// ```text
     /// ┌───────┬───────┐

@@ -1,4 +1,4 @@
-//! The program: its run for the arguments after its name, and its messages.
+//! The program `ctable`: its function for given arguments and streams, and its messages.
 
 ghost use Rattle.std.specs.Prelude.{◌≡◌, None, Some, Result, false, true};
 ghost use Rattle.comfy_run.specs.Arguments.{settings_for};
@@ -16,21 +16,24 @@ use std::alloc::Global;
 
 const USAGE: &str = "usage: ctable [WIDTH|- [disabled|dynamic|full [STYLE]]]\n";
 
-// Statuses of a program that doesn't succeed.
+// The statuses of a program that doesn't succeed: after an error, and for unknown arguments.
 const FAILED: u8 = 1;
 
 const MISUSED: u8 = 2;
 
-/// Draws the table of the source with the settings that the arguments mean, and returns the status
-/// of the program. `args` are the arguments after the program's name.
+/// Runs the program `ctable`: reads the source, draws its table with the settings that the
+/// arguments mean, and writes the drawing to the sink. Returns the exit status of the program.
+/// `args` are the arguments after the program's name.
 ///
-/// The arguments are `[WIDTH|- [disabled|dynamic|full [STYLE]]]`: the table's width, or a hyphen if
-/// it isn't set, the arrangement of its columns, and the name of a preset.
+/// The arguments are `[WIDTH|- [disabled|dynamic|full [STYLE]]]`. The first argument is the width
+/// of the table in terminal columns, or a hyphen for no width. The others are the arrangement of
+/// the columns and the name of a preset.
 ///
-/// The status is 0 if the whole input was read, its drawing was written, and no device failed. Then
-/// nothing is written to `messages`. The status is 1 after an error, and 2 if an argument is
-/// unknown, in which case the source isn't read. Then a line with the reason is written to
-/// `messages`. A failure of `messages` doesn't change the status.
+/// The status is 0 if the whole input was read, its drawing was written, and neither source nor
+/// sink failed. Then nothing is written to `messages`. The status is 1 after an error. It is 2 if
+/// an argument is unknown or there are more than three: then nothing is read from the source. With
+/// status 1 or 2, a line with the reason is written to `messages`. A failure of `messages` doesn't
+/// change the status.
 pub fn program<R: Source, W: Sink, F: Sink>(
     alloc: Global,
     args: &[&str],
@@ -68,7 +71,7 @@ pub fn program<R: Source, W: Sink, F: Sink>(
     }
 }
 
-// The message for an error, as a line.
+// The message for an error, as a line with its line feed.
 fn line_for(error: RunError) -> &'static str
     ensures { result.now ≡ error_line error }
 {
@@ -80,7 +83,7 @@ fn line_for(error: RunError) -> &'static str
     }
 }
 
-// Writes a line. A failure is ignored, because it can't be reported anywhere.
+// Writes a line to `messages`. A failure is ignored, because it can't be reported anywhere.
 fn report<F: Sink>(messages: &mut F, line: &str)
     ensures { Reports line.now (F.taken messages.old) (F.taken messages.new)
         (F.has_failed messages.new) }

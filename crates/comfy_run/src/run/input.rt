@@ -1,4 +1,4 @@
-//! The table that a text represents: its first line is the header, its other lines are rows.
+//! The table of a text: the first line is the header, and the other lines are rows.
 
 ghost use Rattle.std.specs.Prelude.{◌≡◌, IfOk};
 ghost use Rattle.comfy_run.specs.Input.{input_table};
@@ -9,8 +9,10 @@ use crate::settings::Settings;
 use comfy_table::{Result, Table};
 use std::alloc::Global;
 
-/// Makes the table of a text, with these settings. A carriage return before a line feed isn't part
-/// of a line, and an empty last piece isn't a line. The only error is `OutOfMemory`.
+/// Makes the table of a text, with these settings. The first line is the header, the other lines
+/// are rows, and TABs separate cells. A carriage return before a line feed isn't part of a line.
+/// After a line feed at the end of the text there is no further line. The only error is
+/// `OutOfMemory`.
 pub fn table_of(alloc: Global, text: &str, settings: Settings) -> Result<Table>
     ensures { IfOk result (λ table. table
         ≡ input_table settings.width settings.arrangement settings.style text.now) }
@@ -31,7 +33,7 @@ pub fn table_of(alloc: Global, text: &str, settings: Settings) -> Result<Table>
     Ok(table)
 }
 
-// A table without rows, with these settings.
+// A table without header, rows and columns, with these settings.
 fn empty_table(alloc: Global, settings: Settings) -> Table
     ensures { result ≡ record (new_table settings.style)
         { set_width = settings.width; arrangement = settings.arrangement } }

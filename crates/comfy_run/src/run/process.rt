@@ -7,9 +7,9 @@ use std::alloc::AllocError;
 use std::io;
 use std::process::ExitCode;
 
-/// Runs `program` over the standard streams, with the arguments after the process's name, and
-/// returns its status. If an argument isn't UTF-8, or memory runs out for the arguments, the status
-/// is 1, and nothing is read. The message then always is `out of memory`.
+/// Calls `program` with the standard streams and the arguments after the program's name, and
+/// returns the exit status. If an argument isn't UTF-8, or memory runs out for the arguments, the
+/// status is 1, and nothing is read. In both cases the message is `ctable: out of memory`.
 ///
 /// ```
 /// fn main(rt: HostRuntime) -> ExitCode {
@@ -26,17 +26,18 @@ pub fn run_with_arguments(rt: &HostRuntime) -> ExitCode {
     }
 }
 
-// Runs the program with the arguments after its name.
+// Calls `program` with the standard streams and the arguments after the program's name. An error is
+// one of reading the arguments.
 fn run_for_process(rt: &HostRuntime) -> io::Result<ExitCode> {
     let arguments = arguments_of_process(rt)?;
-    let mut behind_name = Vec::new(rt.alloc());
+    let mut after_name = Vec::new(rt.alloc());
     for argument in arguments.iter().skip(1) {
-        behind_name.push(argument.as_str())?;
+        after_name.push(argument.as_str())?;
     }
     let mut source = FromReader::new(Uninterrupted::new(rt.stdin()));
     let mut sink = ToWriter::new(Uninterrupted::new(rt.stdout()));
     let mut messages = ToWriter::new(Uninterrupted::new(rt.stderr()));
-    let words = behind_name.as_slice();
+    let words = after_name.as_slice();
     let status = program(rt.alloc(), words, &mut source, &mut sink, &mut messages);
     Ok(ExitCode::from(status))
 }

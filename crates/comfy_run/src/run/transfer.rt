@@ -11,12 +11,12 @@ use crate::settings::Settings;
 use devices::{Render, Rendered, Sink, Source};
 use std::alloc::Global;
 
-/// Reads the whole source, and writes the drawing of its table to the sink, each line ended by a
-/// line feed.
+/// Reads the whole source, draws its tab-separated text as a table, and writes the drawing to the
+/// sink. Each line is followed by a line feed.
 ///
-/// All memory is taken before the first write. The clauses on bytes hold for devices whose bytes
-/// are known. The clauses on failures and on the end hold for all devices, also for the standard
-/// streams.
+/// All memory is taken before the first write. A *device* is a source or a sink. The clause on
+/// bytes, `known`, holds for devices whose bytes are known, such as those in memory. The clauses on
+/// failures and on the end of the source hold for all devices, also for the standard streams.
 ///
 /// # Errors
 ///
@@ -50,9 +50,9 @@ pub fn run<R: Source, W: Sink>(
 
 impl Render for Settings {
     type Error = RunError;
-    // A drawing is in memory as a whole before the first write.
+    // The whole drawing is in memory before the first write.
     type Output = Option<String>;
-    // No findings are reported.
+    // Nothing is reported besides the drawing.
     type Findings = ();
 
     ghost is_not_enough = { λ _ _. ⊤ };
@@ -88,9 +88,10 @@ impl Render for Settings {
     }
 }
 
-/// The drawing of the table of a text, each line ended by a line feed. `run` writes it for this
-/// input. The first line of the text is the header, the others are rows, and TABs are between
-/// cells. The only error is `OutOfMemory`.
+/// The drawing of the table of a text, each line followed by a line feed. `run` writes the same
+/// drawing for the bytes of this text. The first line of the text is the header, the other lines
+/// are rows, and TABs separate cells. U+000B inside a cell means a line feed. The only error is
+/// `OutOfMemory`.
 ///
 /// ```
 /// let drawing = render_tsv(rt.alloc(), "name\tdays\noats\t3\n", settings)?;

@@ -26,7 +26,7 @@ impl Table {
         self.rows.is_empty()
     }
 
-    /// The header, if there is one.
+    /// The header, which is drawn above the rows; `None` if there is none.
     pub fn header(&self) -> Option<&Row>
         ensures { option_copied result ≡ self.now.header }
     {
@@ -57,7 +57,7 @@ impl Table {
         self.columns.get_mut(index)
     }
 
-    /// The columns in order.
+    /// The columns from left to right, including hidden columns.
     pub fn column_iter(&self) -> slice::Iter<'_, Column>
         ensures rest { iter_rest result ≡ self.now.columns }
         ensures runs { IterYieldsInOrder ColumnValue }
@@ -65,8 +65,8 @@ impl Table {
         self.columns.iter()
     }
 
-    /// Mutable references to the columns, in order. Writing through them changes these columns, and
-    /// nothing else of the table.
+    /// Mutable references to the columns, from left to right, including hidden columns. Writing
+    /// through them changes the columns, and nothing else of the table.
     pub fn column_iter_mut(&mut self) -> slice::IterMut<'_, Column>
         ensures* lent { sem 𝓛 (LendsColumns self.entry result) }
         ensures rest { iter_mut_rest result ≡ self.old.columns }
@@ -94,7 +94,7 @@ impl Table {
         self.rows.get_mut(index)
     }
 
-    /// The rows in order, without the header.
+    /// The rows from the top, without the header.
     pub fn row_iter(&self) -> slice::Iter<'_, Row>
         ensures rest { iter_rest result ≡ self.now.rows }
         ensures runs { IterYieldsInOrder RowValue }
@@ -102,9 +102,9 @@ impl Table {
         self.rows.iter()
     }
 
-    /// Mutable references to the rows, in order and without the header. Writing through them
-    /// changes these rows, and nothing else of the table. No columns are added for new cells: a
-    /// cell after the last column isn't drawn.
+    /// Mutable references to the rows, from the top and without the header. Writing through them
+    /// changes the rows, and nothing else of the table. No columns are added for new cells: a cell
+    /// after the last column isn't drawn.
     pub fn row_iter_mut(&mut self) -> slice::IterMut<'_, Row>
         ensures* lent { sem 𝓛 (LendsRows self.entry result) }
         ensures rest { iter_mut_rest result ≡ self.old.rows }

@@ -20,10 +20,11 @@ use std::marker::Model;
 
 /// A table with the widths of its columns. It is drawn in parts: some of its rows, with header and
 /// borders, all at the widths of the whole table. Parts are pages of a large table, or records one
-/// below the other. `Table::arranged` makes it from a table, and `ArrangedTable::of_contents` from
-/// a table whose rows are kept elsewhere.
+/// below the other. `Table::arranged` makes an `ArrangedTable` from a table, and
+/// `ArrangedTable::of_contents` from a table whose rows are stored outside of it (`TableSource`).
 ///
-/// Each line of a part is a line of the whole drawing: `laws::parts_have_lines_of_the_table`.
+/// Each line of a part is a line of the whole drawing, by the law
+/// `laws::parts_have_lines_of_the_table`.
 ///
 /// ```
 /// let mut table = Table::new(alloc);
@@ -64,8 +65,8 @@ impl<C: TableSource> Model for ArrangedTable<C> {
 }
 
 impl Table {
-    /// The table as it is now, with the widths of its columns, for drawing it in parts. The only
-    /// error is `OutOfMemory`.
+    /// The table as it is now, with the widths of its columns, for drawing the table in parts. The
+    /// only error is `OutOfMemory`.
     pub fn arranged(&self) -> Result<ArrangedTable<&Table>>
         ensures table { IfOk result (λ arranged. arranged.contents.now ≡ self.now) }
         ensures infos { IfOk result (λ arranged. IsArrangedTable self.now
@@ -77,9 +78,11 @@ impl Table {
 }
 
 impl<C: TableSource> ArrangedTable<C> {
-    /// A table with the widths of its columns, whose rows may be kept elsewhere. The caller's proof
-    /// has to show that its rows are rows: that all their cells have texts. The only error is
-    /// `OutOfMemory`.
+    /// The table of `contents`, with the widths of its columns. `contents` may store its rows
+    /// outside of the `Table`. The only error is `OutOfMemory`.
+    ///
+    /// In a proof, the clause `drawing` applies if each row is well formed (`IsRow`): each cell
+    /// then has at least one text line.
     pub fn of_contents(contents: C) -> Result<ArrangedTable<C>>
         ensures contents { IfOk result (λ arranged. arranged.contents ≡ contents) }
         ensures drawing { IfOk result (λ arranged. All IsRow (C.whole contents).rows
@@ -97,14 +100,14 @@ impl<C: TableSource> ArrangedTable<C> {
         })
     }
 
-    /// The contents that were given to `of_contents`, or the table of `Table::arranged`.
+    /// The argument of `of_contents`, or a reference to the table if `Table::arranged` was called.
     pub fn contents(&self) -> &C
         ensures { result.now ≡ self.now.contents }
     {
         &self.contents
     }
 
-    /// A writer that draws rows of the table one after another.
+    /// A writer that draws rows of the table one after another. The only error is `OutOfMemory`.
     pub fn row_writer(&self) -> Result<RowWriter<'_>>
         ensures table { IfOk result (λ writer. with_other_rows
             (C.whole self.now.contents).rows writer.table ≡ C.whole self.now.contents) }
@@ -113,15 +116,16 @@ impl<C: TableSource> ArrangedTable<C> {
         RowWriter::new(self.contents.table(), self.infos.as_slice(), &self.frame)
     }
 
-    /// The width and settings of each column, in list order, including hidden columns.
+    /// The width and settings of each column, hidden ones included, in the order of the table's
+    /// columns.
     pub fn infos(&self) -> &[ColumnDisplayInfo]
         ensures { result.now ≡ self.now.infos }
     {
         self.infos.as_slice()
     }
 
-    // Appends the lines of some of the rows. After `OutOfMemory` the output still begins with its
-    // old content.
+    // Appends the lines of these rows, with the frame lines and the header that `extent` requires.
+    // After `OutOfMemory` the output still begins with its old content.
     pub(crate) fn draw<O: Output>(
         &self,
         rows: &[Row],
@@ -141,8 +145,9 @@ impl<C: TableSource> ArrangedTable<C> {
 
 impl<'a> ArrangedTable<&'a Table> {
     /// Appends a part of the drawing: the table with only `count` of its rows, starting at position
-    /// `first`. Each line is followed by a line feed. Rows after the last one are left out, so a
-    /// part may have only a header and borders. After `OutOfMemory` the text is unchanged.
+    /// `first`. Positions are counted from 0, without the header. If the table ends before, the
+    /// part has fewer rows, or only the header and borders. Each line is followed by a line feed.
+    /// After `OutOfMemory` the text is unchanged.
     ///
     /// ```
     /// let mut page = String::new(alloc);
@@ -162,7 +167,7 @@ impl<'a> ArrangedTable<&'a Table> {
     }
 }
 
-// The width and settings of each column, in list order.
+// The width and settings of each column, in the order of the table's columns.
 fn infos_of<C: TableSource>(contents: &C) -> Result<Vec<ColumnDisplayInfo>>
     ensures drawing { IfOk result (λ infos. All IsRow (C.whole contents.now).rows
         → IsArrangedTable (C.whole contents.now)
@@ -178,7 +183,7 @@ fn infos_of<C: TableSource>(contents: &C) -> Result<Vec<ColumnDisplayInfo>>
     Ok(infos)
 }
 
-// The first `count` rows starting at position `first`. There are fewer if the rows end before.
+// The first `count` rows starting at position `first`. There are fewer if the list ends before.
 fn rows_from(rows: &[Row], first: usize, count: usize) -> &[Row]
     ensures { result.now ≡ take count (drop first rows.now) }
 {
@@ -186,7 +191,7 @@ fn rows_from(rows: &[Row], first: usize, count: usize) -> &[Row]
     &rest[..count.min(rest.len())]
 }
 
-// Proof only: looking at columns, the header and rows shows their invariants.
+// Proof only: reading columns, the header and rows shows that their invariants hold.
 fn look_at_columns(columns: &[Column])
     ensures { All IsColumn columns.now }
 {

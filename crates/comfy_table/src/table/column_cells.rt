@@ -8,8 +8,10 @@ use crate::table::Table;
 use comfy_parts::{Cell, Row};
 use std::marker::Model;
 
-/// The cells of one column, one item for each row, which is `None` if the row has no such cell.
-/// `Table::column_cells_iter` and `Table::column_cells_with_header_iter` make it.
+/// An iterator over the cells of one column, with an item for each row. The item is `None` if the
+/// row has no cell in this column. `Table::column_cells_iter` makes the iterator without the
+/// header, and `Table::column_cells_with_header_iter` with an item for the header before the
+/// others.
 ///
 /// ```
 /// if let Some(Some(cell)) = table.column_cells_iter(1).next() {
@@ -36,8 +38,8 @@ impl<'a> Model for ColumnCellIter<'a> {
 }
 
 impl Table {
-    /// The cells of the column at a position, one item for each row, which is `None` if the row has
-    /// no such cell. The header is left out.
+    /// The cells of the column at a position, counted from 0, with an item for each row. The item
+    /// is `None` if the row has no cell at this position. The header is left out.
     pub fn column_cells_iter(&self, position: usize) -> ColumnCellIter<'_>
         ensures { result ≡ cells_by_row self.now position }
     {
@@ -48,8 +50,9 @@ impl Table {
         }
     }
 
-    /// The cells of the column at a position: first an item for the header, and then one for each
-    /// row. An item is `None` if there is no header, or if the header or the row has no such cell.
+    /// The cells of the column at a position, counted from 0: first an item for the header, and
+    /// then one for each row. An item is `None` if there is no header, or if the header or the row
+    /// has no cell at this position.
     pub fn column_cells_with_header_iter(&self, position: usize) -> ColumnCellIter<'_>
         ensures { result ≡ cells_with_header self.now position }
     {

@@ -26,10 +26,10 @@ impl Table {
         self
     }
 
-    /// Appends default columns until there are as many as the longest row has cells. The functions
-    /// that add rows do this themselves. It is needed only after cells were added to a row through
-    /// `row_mut` or `row_iter_mut`. After `OutOfMemory` the table is unchanged. If no column is
-    /// missing, it takes no memory and succeeds.
+    /// Appends columns with default settings until each cell of every row has a column. The
+    /// functions that add rows do this themselves. A call is needed only after cells were added to
+    /// a row through `row_mut` or `row_iter_mut`. After `OutOfMemory` the table is unchanged. If
+    /// each cell has a column already, the call takes no memory and succeeds.
     pub fn discover_columns(&mut self) -> Result<()>
         ensures ok { OnOk result (self.new ≡ discovered self.old) }
         ensures every_cell { OnOk result (AllCellsHaveColumns (discovered self.old)) }
@@ -41,8 +41,9 @@ impl Table {
         grow_columns(&mut self.columns, count)
     }
 
-    /// Calls `discover_columns`, and returns the number of columns. After `OutOfMemory` the table
-    /// is unchanged. If no column is missing, it takes no memory and succeeds.
+    /// Calls `discover_columns`, and then returns the number of columns. After `OutOfMemory` the
+    /// table is unchanged. If each cell of every row has a column already, the call takes no memory
+    /// and succeeds.
     pub fn column_count(&mut self) -> Result<usize>
         ensures value { IfOk result (λ count. count ≡ length (discovered self.old).columns) }
         ensures ok { OnOk result (self.new ≡ discovered self.old) }
@@ -55,7 +56,8 @@ impl Table {
     }
 }
 
-// Sets the constraints of the first columns, until the constraints or the columns end.
+// Sets the constraints of columns from the first column on, until the constraints or the columns
+// end.
 fn set_each<I>(columns: &mut [Column], constraints: I)
 where
     I: Items<Item = ColumnConstraint>,
@@ -90,7 +92,7 @@ fn with_constraint(mut column: Column, constraint: ColumnConstraint) -> Column
     column
 }
 
-// The greatest number of cells in one of the rows; 0 if there are no rows.
+// The greatest number of cells in a row; 0 if there are no rows.
 fn greatest_cell_count(rows: &[Row]) -> usize
     ensures { result ≡ greatest_cell_count rows.now }
 {

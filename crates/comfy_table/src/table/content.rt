@@ -1,4 +1,4 @@
-//! The widths of the contents of columns.
+//! The content widths of cells and columns: the widths of their widest text lines.
 
 ghost use Rattle.std.specs.Prelude.{◌≡◌, IfOk, length, map, max, replicate, slice_index_or, slice_set, string_bytes};
 ghost use Rattle.comfy_parts.specs.Text.{measure};
@@ -8,9 +8,9 @@ use crate::table::Table;
 use comfy_parts::for_tables::measured_lines;
 use comfy_parts::{Cell, Result, Row};
 
-/// The content of the column at a position: the greatest measure of its text lines, in terminal
-/// columns, over header and rows. Each cell counts at least 1, a greater measure than 65535 counts
-/// 65535, and a column without cells gives 0.
+/// The content width of the column at a position: the width of the widest text line in its cells
+/// and header, in terminal columns. Each cell counts at least 1 and at most 65535, and a column
+/// without cells gives 0.
 pub(crate) fn column_content_width(table: &Table, position: usize) -> u16
     ensures { result ≡ column_content_width table.now position }
 {
@@ -24,8 +24,8 @@ pub(crate) fn column_content_width(table: &Table, position: usize) -> u16
 }
 
 impl Table {
-    // The text lines of a cell as they are measured, and the terminal columns that each takes. With
-    // custom styling, these are the text lines without their sequences.
+    // The text lines of a cell as they are measured, and the width of each in terminal columns.
+    // With `custom_styling`, text lines are measured without their SGR sequences.
     pub(crate) fn measured_lines<'a>(&self, cell: &'a Cell) -> (&'a [String], &'a [usize])
         ensures texts { map string_bytes result.0.now
             ≡ (measured_cell self.now cell.now).text_lines }
@@ -34,8 +34,8 @@ impl Table {
         measured_lines(cell, self.custom_styling)
     }
 
-    /// The greatest measure of a cell's text lines, in terminal columns, at least 1 and at most
-    /// 65535.
+    /// The width of a cell's widest text line, in terminal columns, at least 1 and at most 65535.
+    /// With `custom_styling`, the SGR sequences of the text aren't counted.
     pub fn cell_content_width(&self, cell: &Cell) -> u16
         ensures { result ≡ cell_content_width (measured_cell self.now cell.now) }
     {
@@ -47,9 +47,9 @@ impl Table {
         widest.min(65535) as u16
     }
 
-    /// The content of each column, in list order: the greatest measure of its text lines, in
-    /// terminal columns, over header and rows. Each cell counts at least 1, a greater measure than
-    /// 65535 counts 65535, and a column without cells gives 0. Cells after the last column are
+    /// The content width of each column, in the order of the table's columns: the width of the
+    /// widest text line in its cells and header, in terminal columns. Each cell counts at least 1
+    /// and at most 65535, and a column without cells gives 0. Cells after the last column are
     /// ignored. The only error is `OutOfMemory`.
     pub fn column_max_content_widths(&self) -> Result<Vec<u16>>
         ensures { IfOk result (λ widths. widths.items ≡ max_content_widths self.now) }
@@ -77,8 +77,9 @@ impl Table {
     }
 }
 
-// Makes columns at least as wide as the cells of a row. Rows may have fewer cells than there are
-// columns. Going through a table row by row takes time for its cells only.
+// Raises the width of each column to the content width of its cell in a row, if that is greater.
+// Rows may have fewer cells than there are columns. Going through a table row by row takes time for
+// its cells only.
 fn widen(table: &Table, row: &Row, widths: &mut Vec<u16>)
     ensures { widths.new.items ≡ widened table.now row.now.cells widths.old.items }
 {
@@ -87,7 +88,7 @@ fn widen(table: &Table, row: &Row, widths: &mut Vec<u16>)
     }
 }
 
-// Makes a column at least this wide, if it exists.
+// Raises the width at a position to `least`, if it is less. Does nothing after the last column.
 fn widen_at(widths: &mut Vec<u16>, position: usize, least: u16)
     ensures { widths.new.items ≡ slice_set widths.old.items position
         (max (slice_index_or widths.old.items position 0) least) }

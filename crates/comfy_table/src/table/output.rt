@@ -12,12 +12,12 @@ use comfy_parts::Result;
 use std::marker::Model;
 use std::vec;
 
-/// The drawn lines of a table that are still to come, from the top. If neither the style nor the
+/// An iterator over the drawn lines of a table, from the top. If neither the style nor the
 /// truncation indicator has a line feed, no line has one.
 ///
-/// After `custom_styling` no line leaves a sequence open under three conditions. A cell's own
-/// colours are written only together with an attribute. Neither the style nor the indicator has
-/// ESC. Each shown column has a padding at its right.
+/// With `custom_styling`, no line leaves an SGR sequence open under three conditions. Each cell
+/// with a colour of its own also has an attribute, if colours are written. Neither the style nor
+/// the indicator has ESC. Each shown column has a padding on its right.
 ///
 /// ```
 /// let top = table.lines()?.next();
@@ -61,20 +61,24 @@ impl Iterator for Lines {
 impl Table {
     /// The drawn lines of the table as it is now, from the top. The only error is `OutOfMemory`.
     ///
-    /// The lines are frame lines, and rows of padded pieces, in the order of the drawing. Without
-    /// colours and attributes, all lines of a straight table take the same number of terminal
-    /// columns, for texts of every script. `IsStraightTable` has the conditions; in all presets a
-    /// table that is as wide as its texts meets them. All lines have the same number of characters
-    /// if texts and delimiters are printable ASCII, and if each indicator that is written adds one
-    /// terminal column for each of its characters.
+    /// The lines are the frame lines and the lines of the rows, in the order in which they are
+    /// printed. Without colours, attributes and `custom_styling`, all lines of a straight table
+    /// take the same number of terminal columns, for texts of every script. `IsStraightTable` has
+    /// the conditions under which a table is straight. In any preset, a table that is as wide as
+    /// its texts meets these conditions, if its columns have the paddings of new columns. A table
+    /// is printable (`IsPrintableTable`) if texts and delimiters are printable ASCII, and if each
+    /// character of an indicator that is drawn adds one terminal column. Without colours,
+    /// attributes and `custom_styling`, all lines of a printable table have the same number of
+    /// characters.
     ///
-    /// If the table's width is known, frame lines keep to it, whatever the texts are. Under
-    /// `ContentArrangement::Dynamic` a frame line has at most that many characters, and under
-    /// `DynamicFullWidth` exactly that many, if a column is shown. If the borders, the paddings and
-    /// one character for each shown column need more than this width, their sum takes its place. A
-    /// column with a fixed width, or whose lower boundary is taken, counts with that width instead
-    /// of one character. For printable ASCII this holds of every line, without its styles, and for
-    /// a straight table in terminal columns.
+    /// Let W be the table's width, if it is known. Let F be the number of characters of borders and
+    /// paddings in a line, plus one for each shown column. For a column whose width is fixed by its
+    /// constraint or decided by its lower boundary, F counts this width without paddings instead of
+    /// one. Under `ContentArrangement::Dynamic` a frame line has at most max(W, F) characters,
+    /// whatever the texts are. Under `DynamicFullWidth` a frame line has exactly max(W, F)
+    /// characters, if a column is shown. Without colours, attributes and `custom_styling`, this
+    /// also holds for the other lines: in a printable table for their characters, and in a straight
+    /// table for their terminal columns.
     ///
     /// ```
     /// let mut table = Table::new(alloc);
@@ -96,7 +100,7 @@ impl Table {
 
     /// The drawn lines, joined by line feeds. The only error is `OutOfMemory`. If neither the style
     /// nor the truncation indicator has a line feed, splitting the text at line feeds gives the
-    /// lines: `laws::lines_are_found_in_their_texts`.
+    /// lines, by the law `laws::lines_are_found_in_their_texts`.
     ///
     /// ```
     /// let drawing = table.to_text()?;
@@ -124,8 +128,8 @@ impl Table {
     }
 
     /// The drawn lines, each followed by a line feed, ready to print. The only error is
-    /// `OutOfMemory`. If neither the style nor the truncation indicator has a line feed, each line
-    /// is the text before one.
+    /// `OutOfMemory`. If neither the style nor the truncation indicator has a line feed, the lines
+    /// are the texts before the line feeds.
     pub fn to_terminated_text(&self) -> Result<String>
         ensures { IfOk result (λ text. TerminatesLines self.now (string_bytes text)) }
     {

@@ -8,42 +8,48 @@ use crate::table::terminal::Terminal;
 use comfy_parts::style::{ContentArrangement, TableStyle};
 use comfy_parts::{Column, Row};
 
-/// All parts of a table. `Table::from_parts` makes a table of them without taking memory.
+/// All parts of a table: header, rows, columns and settings. `Table::from_parts` makes a table of
+/// these parts without taking memory.
 #[derive(Debug, Drop)]
 pub struct TableParts {
-    /// The columns. Cells after the last column are left out, so there may be fewer columns than
-    /// cells in a row.
+    /// The columns, from left to right. A row may have more cells than there are columns: cells
+    /// after the last column aren't drawn.
     pub columns: Vec<Column>,
-    /// The header.
+    /// The header, which is drawn above the rows; `None` for a table without a header.
     pub header: Option<Row>,
-    /// The rows below it.
+    /// The rows, from the top, without the header.
     pub rows: Vec<Row>,
     /// The characters of the frame.
     pub style: TableStyle,
     /// The rule by which the widths of the columns are found.
     pub arrangement: ContentArrangement,
-    /// The character at which texts may break; `None` for a space.
+    /// The character at which texts may break, unless a column or a cell has its own; `None` for a
+    /// space.
     pub delimiter: Option<char>,
-    /// The text that follows a line that a row's height cuts; `None` for `…`.
+    /// The truncation indicator: the text that follows a line that `Row::max_height` cuts; `None`
+    /// for `…`.
     pub indicator: Option<String>,
-    /// The width in terminal columns; `None` if it isn't set.
+    /// The width of the table in terminal columns; `None` if no width is set.
     pub set_width: Option<u16>,
-    /// The facts that are known of the terminal.
+    /// Facts about the terminal, such as its width; `Terminal::UNKNOWN` if nothing is known.
     pub terminal: Terminal,
-    /// If true, the table is drawn as if the output were no terminal.
+    /// True if the table is drawn as if its output weren't a terminal, whatever facts `terminal`
+    /// has.
     pub no_tty: bool,
-    /// If true, the output is standard error instead of standard output.
+    /// True if the table is printed to standard error, and false for standard output.
     pub use_stderr: bool,
-    /// If true, colours and attributes are written even if the output is no terminal.
+    /// True if colours and attributes are written even if the output isn't a terminal.
     pub enforce_styling: bool,
-    /// If true, colours and attributes surround only the texts, not paddings and spaces.
+    /// True if colours and attributes surround only the texts of cells, without paddings and
+    /// spaces.
     pub style_text_only: bool,
-    /// If true, SGR sequences in cells are ignored in widths, line ends and cuts.
+    /// True if SGR sequences in cells have no influence on widths, on line ends, and on the cuts by
+    /// `Row::max_height` (`Table::custom_styling`).
     pub custom_styling: bool,
 }
 
 impl Table {
-    /// The table of these parts. Takes no memory.
+    /// The table that consists of these parts. The call takes no memory.
     pub fn from_parts(parts: TableParts) -> Table
         ensures { result ≡ table_of_parts parts }
     {

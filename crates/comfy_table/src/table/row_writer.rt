@@ -13,8 +13,8 @@ use comfy_parts::content_split::ColumnDisplayInfo;
 use comfy_parts::{Result, Row};
 use std::marker::Model;
 
-/// Draws rows of a table one after another, and reuses its memory for each next row.
-/// `ArrangedTable::row_writer` makes it.
+/// A writer that draws rows of a table one after another, and reuses its memory from row to row.
+/// `ArrangedTable::row_writer` makes a `RowWriter`.
 ///
 /// ```
 /// let mut writer = arranged.row_writer()?;
@@ -47,18 +47,18 @@ impl<'a> RowWriter<'a> {
         Ok(RowWriter { writer })
     }
 
-    /// The width and settings of each column, in list order, including hidden columns.
+    /// The width and settings of each column, hidden ones included, in the order of the table's
+    /// columns.
     pub fn infos(&self) -> &[ColumnDisplayInfo]
         ensures { result.now ≡ self.now.infos }
     {
         self.writer.infos()
     }
 
-    /// Appends the lines of these rows, each followed by a line feed. `extent` says whether they
-    /// include the first or the last row of the table. If they include the first row, the top
-    /// border and the header are above them, and otherwise the row separator. It is also between
-    /// each two of them. If they include the last row, the bottom border is below them. After
-    /// `OutOfMemory` the text is unchanged.
+    /// Appends the lines of these rows, each followed by a line feed. If `extent.is_first` is true,
+    /// the rows begin with the first row of the table: the top border and the header come above it.
+    /// Above each other row comes the row separator. If `extent.is_last` is true, the bottom border
+    /// comes below the last of the rows. After `OutOfMemory` the text is unchanged.
     pub fn push_rows(&mut self, text: &mut String, rows: &[Row], extent: PartEnds) -> Result<()>
         ensures ok { OnOk result (string_bytes text.new
             ≡ string_bytes text.old ++ terminated_text_of
@@ -75,9 +75,9 @@ impl<'a> RowWriter<'a> {
         drawn
     }
 
-    /// Appends the lines of a row of these cells, as `push_rows` does for one row. At most `limit`
-    /// lines of the row are drawn. A limit of 0 counts as 1. After `OutOfMemory` the text is
-    /// unchanged.
+    /// Appends the lines of a row that consists of these cells, as `push_rows` does for one row. At
+    /// most `limit` lines of the row are drawn. A limit of 0 counts as 1, and with `None` all lines
+    /// are drawn. After `OutOfMemory` the text is unchanged.
     #[inline(always)]
     pub fn push_cells(
         &mut self,
@@ -101,9 +101,9 @@ impl<'a> RowWriter<'a> {
         drawn
     }
 
-    /// The number of lines of a row of these cells, if at most `limit` are drawn. A limit of 0
-    /// counts as 1. In a table without visible columns a row has no lines. The only error is
-    /// `OutOfMemory`.
+    /// The number of lines of a row that consists of these cells, if at most `limit` lines of it
+    /// are drawn. A limit of 0 counts as 1, and with `None` all lines are drawn. In a table without
+    /// visible columns a row has no lines. The only error is `OutOfMemory`.
     pub fn height_of_cells(&self, cells: &[RowCell<'_>], limit: Option<usize>) -> Result<usize>
         ensures { IfOk result (λ height. height ≡ row_height self.now.table self.now.infos
             (row_with (map cell_of cells.now) limit)) }

@@ -16,8 +16,9 @@ use std::alloc::Global;
 use std::vec;
 
 impl Table {
-    /// A table with this header and these rows, in the style `ASCII_FULL`. It has as many columns
-    /// as the longest of them has cells. The only error is `OutOfMemory`.
+    /// A table with this header and these rows, in the style `ASCII_FULL`. The number of its
+    /// columns is the greatest number of cells in the header or a row. The only error is
+    /// `OutOfMemory`.
     ///
     /// ```
     /// let bikes = [["17", "dock 3"], ["18", "rented"]];
@@ -37,9 +38,10 @@ impl Table {
         Ok(table)
     }
 
-    /// Appends rows in their order, each as `add_row` does. Returns the table for further calls.
-    /// After `OutOfMemory` the table has the rows before the refused one. The refused row and the
-    /// rows after it are dropped. To learn which row was refused, use `try_add_rows`.
+    /// Appends rows in their order, each as `add_row` does. Returns the table for further calls. If
+    /// memory runs out at a row, the error is `OutOfMemory`, and the table keeps the rows that were
+    /// added before. That row and the rows after it are dropped. To learn at which row memory ran
+    /// out, call `try_add_rows` instead.
     ///
     /// ```
     /// table.add_rows([["17", "dock 3"], ["18", "rented"]])?;
@@ -58,10 +60,11 @@ impl Table {
         into_reference(self.with_rows_added(rows))
     }
 
-    /// Calls the predicate once, with the number of rows and the row. If it returns true, the row
-    /// is appended as by `add_row`. Otherwise nothing changes, no memory is taken, and the row is
-    /// dropped. Returns the table for further calls. After `OutOfMemory` the table is unchanged. A
-    /// caller's own proof can use this only if it calls `try_add_row_if` instead.
+    /// Calls the predicate once, with the number of rows in the table and the new row. If the
+    /// predicate returns true, `add_row_if` appends the row as `add_row` does. Otherwise nothing
+    /// changes, no memory is taken, and the row is dropped. Returns the table for further calls.
+    /// After `OutOfMemory` the table is unchanged. To use this fact in a proof of your own, call
+    /// `try_add_row_if` instead.
     pub fn add_row_if<P, T>(&mut self, predicate: P, row: T) -> Result<&mut Self>
     where
         P: Fn(usize, &T) -> bool + Drop,
@@ -69,7 +72,7 @@ impl Table {
         requires { P.IsAlwaysCallable predicate }
         ensures* err { sem 𝓛 (TableStaysIfErr self.entry result) }
         ensures same_reference { IfOk result (λ table. table.ghost_name ≡ self.entry.ghost_name) }
-        ensures asked { IfOk result
+        ensures called { IfOk result
             (λ table. (yes : Bool) × Answers P.Fn predicate (length self.old.rows) row yes
             × (table.now ≡ (if yes then with_row (T.row_of row) self.old else self.old))) }
         ensures refused_on_yes { OnErr result
@@ -78,10 +81,11 @@ impl Table {
         into_reference(self.with_row_added_if(predicate, row))
     }
 
-    /// Calls the predicate once, with the number of rows and the new rows. If it returns true, they
-    /// are appended as by `add_rows`. Otherwise nothing changes, no memory is taken, and they are
-    /// dropped. Returns the table for further calls. After `OutOfMemory` the table has the rows
-    /// before the refused one.
+    /// Calls the predicate once, with the number of rows in the table and all new rows. If the
+    /// predicate returns true, `add_rows_if` appends the new rows as `add_rows` does. Otherwise
+    /// nothing changes, no memory is taken, and the new rows are dropped. Returns the table for
+    /// further calls. If memory runs out at a row, the error is `OutOfMemory`, and the table keeps
+    /// the rows that were added before.
     pub fn add_rows_if<P, I>(&mut self, predicate: P, rows: I) -> Result<&mut Self>
     where
         P: Fn(usize, &I) -> bool + Drop,
@@ -92,7 +96,7 @@ impl Table {
         ensures* err { sem 𝓛 (TableHasFirstRowsIfErr
             (map I.Item.row_of (I.items_of rows)) self.entry result) }
         ensures same_reference { IfOk result (λ table. table.ghost_name ≡ self.entry.ghost_name) }
-        ensures asked { IfOk result
+        ensures called { IfOk result
             (λ table. (yes : Bool) × Answers P.Fn predicate (length self.old.rows) rows yes
             × (table.now ≡ (if yes
             then with_rows (map I.Item.row_of (I.items_of rows)) self.old
@@ -103,10 +107,11 @@ impl Table {
         into_reference(self.with_rows_added_if(predicate, rows))
     }
 
-    /// Appends the rows that are left of a `Vec`, in their order, each as `add_row` does. Use it to
-    /// go on with the table after `OutOfMemory`. The table then has the rows before the refused
-    /// one, with the columns that these added. The refused row is dropped, and the iterator still
-    /// has the rows after it.
+    /// Appends the rows that an iterator over a `Vec` still has, in their order, each as `add_row`
+    /// does. If memory runs out at a row, the error is `OutOfMemory`. The table then keeps the rows
+    /// that were added before, and the columns that were appended for them. The row at which memory
+    /// ran out is dropped, and the iterator still has the rows after it. A proof of your own can
+    /// use these facts.
     ///
     /// ```
     /// let mut rows = vec![in alloc; ["17", "dock 3"], ["18", "rented"]]?.into_iter();
@@ -122,9 +127,11 @@ impl Table {
         self.push_rows(rows)
     }
 
-    /// Calls the predicate once, with the number of rows and the row, and appends the row if it
-    /// returns true. Use it to go on with the table after `OutOfMemory`, which is possible only
-    /// after true. The table is then unchanged, and the caller's own proof can use that.
+    /// Calls the predicate once, with the number of rows in the table and the new row. If the
+    /// predicate returns true, `try_add_row_if` appends the row as `try_add_row` does, and
+    /// otherwise it drops the row. `OutOfMemory` is possible only if the predicate returned true.
+    /// After this error the table is unchanged. Unlike after `add_row_if`, a proof of your own can
+    /// use this fact.
     pub fn try_add_row_if<P, T>(&mut self, predicate: P, row: T) -> Result<()>
     where
         P: Fn(usize, &T) -> bool + Drop,
@@ -142,7 +149,8 @@ impl Table {
         self.try_add_row(row)
     }
 
-    // Appends the rows of an iterator, until it ends or a row is refused.
+    // Appends the rows of an iterator, until the iterator ends or memory runs out at a row. After
+    // the error the table has the rows before that row.
     fn push_rows<R>(&mut self, rows: &mut R) -> Result<()>
     where
         R: Iterator,
@@ -161,7 +169,7 @@ impl Table {
         Ok(())
     }
 
-    // Appends rows in their order. After an error the table has the rows before the refused one.
+    // Appends rows in their order. If memory runs out at a row, the table keeps the rows before it.
     fn push_items<I>(&mut self, rows: I) -> Result<()>
     where
         I: Items,
@@ -176,7 +184,7 @@ impl Table {
         self.push_rows(&mut rows)
     }
 
-    // The result of a predicate for the number of rows and a value.
+    // The result of a predicate that is called with the number of rows in the table and a value.
     fn answer_of<P, T>(&self, predicate: &P, value: &T) -> bool
     where
         P: Fn(usize, &T) -> bool,
@@ -213,7 +221,7 @@ impl Table {
         ensures* err { sem 𝓛 (TableStaysIfErr self.entry (reference_of result)) }
         ensures same_reference { IfOk (reference_of result)
             (λ table. table.ghost_name ≡ self.entry.ghost_name) }
-        ensures asked { IfOk (reference_of result)
+        ensures called { IfOk (reference_of result)
             (λ table. (yes : Bool) × Answers P.Fn predicate (length self.old.rows) row yes
             × (table.now ≡ (if yes then with_row (T.row_of row) self.old else self.old))) }
         ensures refused_on_yes { OnErr (reference_of result)
@@ -236,7 +244,7 @@ impl Table {
             (map I.Item.row_of (I.items_of rows)) self.entry (reference_of result)) }
         ensures same_reference { IfOk (reference_of result)
             (λ table. table.ghost_name ≡ self.entry.ghost_name) }
-        ensures asked { IfOk (reference_of result)
+        ensures called { IfOk (reference_of result)
             (λ table. (yes : Bool) × Answers P.Fn predicate (length self.old.rows) rows yes
             × (table.now ≡ (if yes
             then with_rows (map I.Item.row_of (I.items_of rows)) self.old

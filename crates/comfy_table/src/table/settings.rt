@@ -11,7 +11,7 @@ use comfy_parts::style::{ContentArrangement, TableStyle};
 use comfy_parts::{Cell, Result};
 
 impl Table {
-    /// Replaces the style.
+    /// Replaces the style: the characters of the frame. The presets are in `style::presets`.
     ///
     /// ```
     /// table.load_style(UTF8_FULL.with_solid_inner_borders());
@@ -24,15 +24,15 @@ impl Table {
         self
     }
 
-    /// The characters of the frame.
+    /// The style of the table: the characters of the frame.
     pub fn style(&self) -> TableStyle
         ensures { result ≡ self.now.style }
     {
         self.style
     }
 
-    /// A mutable reference to the style. Writing through it changes the style, and nothing else of
-    /// the table.
+    /// A mutable reference to the style: the characters of the frame. Writing through it changes
+    /// the style, and nothing else of the table.
     pub fn style_mut(&mut self) -> &mut TableStyle
         ensures* lent { sem 𝓛 (LendsStyle self.entry result) }
         ensures value { result.now ≡ self.old.style }
@@ -40,8 +40,8 @@ impl Table {
         &mut self.style
     }
 
-    /// Sets the character at which texts may break, unless their column or cell has its own. In a
-    /// new table this is a space.
+    /// Sets the delimiter: the character at which texts may break. A delimiter that is set for a
+    /// column or a cell takes precedence there. The delimiter of a new table is a space.
     pub fn set_delimiter(&mut self, delimiter: char) -> &mut Self
         ensures same_reference { result.ghost_name ≡ self.entry.ghost_name }
         ensures value { result.now ≡ record self.old { delimiter = Some delimiter } }
@@ -50,10 +50,10 @@ impl Table {
         self
     }
 
-    /// Sets the truncation indicator, which follows a line that `Row::max_height` cuts. A new table
-    /// has `…`. A column that is narrower than the indicator is drawn without it. Returns the table
-    /// for further calls. After `OutOfMemory` the table is unchanged. A caller's own proof can use
-    /// this only if it calls `try_set_truncation_indicator` instead.
+    /// Sets the truncation indicator: the text that follows a line that `Row::max_height` cuts. A
+    /// new table has `…`. In a column that is narrower than the indicator, no indicator is drawn.
+    /// Returns the table for further calls. After `OutOfMemory` the table is unchanged. To use this
+    /// fact in a proof of your own, call `try_set_truncation_indicator` instead.
     pub fn set_truncation_indicator(&mut self, indicator: &str) -> Result<&mut Self>
         ensures* err { sem 𝓛 (TableStaysIfErr self.entry result) }
         ensures same_reference { IfOk result (λ table. table.ghost_name ≡ self.entry.ghost_name) }
@@ -64,9 +64,9 @@ impl Table {
         into_reference(self.with_indicator_set(indicator))
     }
 
-    /// Sets the truncation indicator, as `set_truncation_indicator` does. Use it to go on with the
-    /// table after `OutOfMemory`: the table is then unchanged, and the caller's own proof can use
-    /// that.
+    /// Sets the truncation indicator, as `set_truncation_indicator` does. After `OutOfMemory` the
+    /// table is unchanged. Unlike after `set_truncation_indicator`, a proof of your own can use
+    /// this fact.
     pub fn try_set_truncation_indicator(&mut self, indicator: &str) -> Result<()>
         ensures ok { OnOk result (self.new ≡ record self.old { indicator = indicator.now }) }
         ensures err { OnErr result (self.new ≡ self.old) }
@@ -89,8 +89,9 @@ impl Table {
         Ok(TableReference { table: self })
     }
 
-    /// Sets how the widths of the columns are found. A new table has `Disabled`. The dynamic
-    /// arrangements keep to the table's width, and act as `Disabled` if this width isn't known.
+    /// Sets the rule by which the widths of the columns are found. A new table has `Disabled`. The
+    /// dynamic arrangements keep to the table's width, and act as `Disabled` if this width isn't
+    /// known.
     pub fn set_content_arrangement(&mut self, arrangement: ContentArrangement) -> &mut Self
         ensures same_reference { result.ghost_name ≡ self.entry.ghost_name }
         ensures value { result.now ≡ record self.old { arrangement = arrangement } }
@@ -106,8 +107,8 @@ impl Table {
         self.arrangement
     }
 
-    /// Sets the width of the table in terminal columns. The dynamic arrangements keep to it, and
-    /// percentages in constraints are of this width less the borders.
+    /// Sets the width of the table in terminal columns. The dynamic arrangements keep to this
+    /// width. A percentage in a constraint is of this width less the borders.
     ///
     /// ```
     /// table
@@ -122,11 +123,11 @@ impl Table {
         self
     }
 
-    /// Ignores SGR sequences in cells (ESC, `[`, digits, `;` and `:`, then `m`) in widths, line
-    /// ends and cuts, which are then the same as without the sequences. Each line begins with the
-    /// sequences that are active at its start, and ends with `ESC[0m` if one is still open. A line
-    /// that a row's height cuts has none of its text's sequences. In a new table this is off, and
-    /// it can't be turned off again.
+    /// Makes SGR sequences in cells have no influence on widths, on line ends, and on the cuts by
+    /// `Row::max_height`. An SGR sequence is ESC, `[`, digits, `;` and `:`, then `m`. Each line of
+    /// a cell begins with the sequences that are active at its start, and ends with `ESC[0m` if a
+    /// sequence is still open. A line that `Row::max_height` cuts has none of its text's sequences.
+    /// In a new table this setting is off. It can't be turned off after this call.
     ///
     /// ```
     /// let mut table = Table::new(alloc);
@@ -149,7 +150,8 @@ impl Table {
         self
     }
 
-    /// Returns true if SGR sequences in cells are ignored in widths, as after `custom_styling`.
+    /// Returns true if `custom_styling` was called. SGR sequences in cells then have no influence
+    /// on widths, on line ends, and on the cuts by `Row::max_height`.
     pub fn has_custom_styling(&self) -> bool
         ensures { result ≡ self.now.custom_styling }
     {

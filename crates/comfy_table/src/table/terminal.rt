@@ -5,13 +5,13 @@ ghost use Rattle.comfy_table.specs.TableValue.{is_tty, should_style, table_width
 
 use crate::table::Table;
 
-/// Facts about a terminal, as the caller found them. `Table::set_terminal` takes them. With them,
-/// colours and attributes are written only if the output is a terminal, and a table without a width
-/// of its own takes the terminal's width.
+/// Facts about a terminal, as the caller found them. After `Table::set_terminal`, a table writes
+/// colours and attributes if its output is a terminal. A table without a width of its own then
+/// takes the terminal's width.
 ///
-/// A program finds them as follows, if the shell exports the width in `COLUMNS`. Interactive shells
-/// don't export it: a line like `alias program='COLUMNS=$COLUMNS program'` in the shell's start
-/// file does.
+/// A program finds these facts as follows, if the shell exports the width in `COLUMNS`. Interactive
+/// shells don't export it: a line like `alias program='COLUMNS=$COLUMNS program'` in the shell's
+/// start file does.
 ///
 /// ```
 /// use std::env;
@@ -31,12 +31,13 @@ pub struct Terminal {
     pub stdout_is_tty: bool,
     /// True if standard error is a terminal.
     pub stderr_is_tty: bool,
-    /// The terminal columns of its lines; `None` if their number isn't known.
+    /// The width of the terminal in terminal columns; `None` if it isn't known.
     pub width: Option<u16>,
 }
 
 impl Terminal {
-    /// A terminal of which nothing is known.
+    /// Facts about a terminal of which nothing is known: neither standard output nor standard error
+    /// counts as a terminal, and there is no width.
     pub const UNKNOWN: Terminal = Terminal {
         stdout_is_tty: false,
         stderr_is_tty: false,
@@ -45,8 +46,9 @@ impl Terminal {
 }
 
 impl Table {
-    /// Sets the facts about the terminal. A new table has none. No function of a table asks the
-    /// terminal itself, so the caller has to find the facts, as in the example of `Terminal`.
+    /// Sets the facts about the terminal. A new table has `Terminal::UNKNOWN`. No function of a
+    /// table queries the terminal itself, so the caller has to find the facts, as in the example of
+    /// `Terminal`.
     pub fn set_terminal(&mut self, terminal: Terminal) -> &mut Self
         ensures same_reference { result.ghost_name ≡ self.entry.ghost_name }
         ensures value { result.now ≡ record self.old { terminal = terminal } }
@@ -55,8 +57,9 @@ impl Table {
         self
     }
 
-    /// Draws the table as if the output were no terminal, whatever the facts say. The terminal's
-    /// width isn't taken, and no colours and attributes are written without `enforce_styling`.
+    /// Makes the table treat its output as no terminal, whatever facts `set_terminal` sets. The
+    /// terminal's width isn't used. Colours and attributes are written only after
+    /// `enforce_styling`.
     pub fn force_no_tty(&mut self) -> &mut Self
         ensures same_reference { result.ghost_name ≡ self.entry.ghost_name }
         ensures value { result.now ≡ record self.old { no_tty = true } }
@@ -65,7 +68,8 @@ impl Table {
         self
     }
 
-    /// Makes standard error the output. Without this call, standard output is.
+    /// Makes standard error the output of the table. Without this call the output is standard
+    /// output. Only the facts about this output decide whether the table is printed to a terminal.
     pub fn use_stderr(&mut self) -> &mut Self
         ensures same_reference { result.ghost_name ≡ self.entry.ghost_name }
         ensures value { result.now ≡ record self.old { use_stderr = true } }
@@ -74,8 +78,8 @@ impl Table {
         self
     }
 
-    /// Writes colours and attributes even if the output is no terminal, but a file or the input of
-    /// another program.
+    /// Makes the table write colours and attributes even if its output isn't a terminal, but a file
+    /// or the input of another program.
     pub fn enforce_styling(&mut self) -> &mut Self
         ensures same_reference { result.ghost_name ≡ self.entry.ghost_name }
         ensures value { result.now ≡ record self.old { enforce_styling = true } }
@@ -84,16 +88,16 @@ impl Table {
         self
     }
 
-    /// Writes colours and attributes only around the texts of cells, and not around paddings and
-    /// the spaces beside the texts.
+    /// Makes the table write colours and attributes only around the texts of cells, and not around
+    /// paddings and the spaces beside the texts.
     pub fn style_text_only(&mut self)
         ensures { self.new ≡ record self.old { style_text_only = true } }
     {
         self.style_text_only = true;
     }
 
-    /// The width in terminal columns: the one that was set, or else the terminal's width if the
-    /// output is a terminal. Otherwise `None`.
+    /// The width of the table in terminal columns: the width that was set, or else the terminal's
+    /// width if the output is a terminal. Otherwise `None`.
     pub fn width(&self) -> Option<u16>
         ensures { result ≡ table_width self.now }
     {
@@ -107,8 +111,8 @@ impl Table {
         }
     }
 
-    /// Returns true if the output is a terminal, according to the facts that were set. Each call
-    /// decides anew.
+    /// Returns true if the output is a terminal, according to the facts of `set_terminal`. After
+    /// `force_no_tty` the result is always false. Each call evaluates the facts again.
     pub fn is_tty(&self) -> bool
         ensures { result ≡ is_tty self.now }
     {

@@ -26,15 +26,15 @@ use helper::count_visible_columns;
 pub use longest::longest_line;
 use source::TableSource;
 
-/// The width and settings of each column, in list order, including hidden columns. The only error
-/// is `OutOfMemory`.
+/// The width and settings of each column, hidden ones included, in the order of the table's
+/// columns. The only error is `OutOfMemory`.
 pub fn arrange_content(table: &Table) -> Result<Vec<ColumnDisplayInfo>>
     ensures { IfOk result (λ infos. AreInfosOf table.now infos.items) }
 {
     arrange(table)
 }
 
-// The width and settings of each column of a table whose rows may be kept elsewhere.
+// The width and settings of each column of a table whose rows may be stored outside of the table.
 pub(crate) fn arrange<C: TableSource>(contents: &C) -> Result<Vec<ColumnDisplayInfo>>
     ensures { IfOk result (λ infos. AreInfosOf (C.whole contents.now) infos.items) }
 {
@@ -57,8 +57,8 @@ fn kept_width(table: &Table) -> Option<u16>
     }
 }
 
-// Each column with its width. The visible ones get these widths in list order, and 1 if there are
-// no more widths. A hidden column gets its content's width.
+// Each column with its width. The visible columns get these widths in the order of the columns, and
+// 1 if there are no more widths. A hidden column gets its content's width.
 fn infos_with<C: TableSource>(contents: &C, widths: &[u16]) -> Result<Vec<ColumnDisplayInfo>>
     ensures { IfOk result (λ infos. infos.items
         ≡ infos_of (C.whole contents.now) (all_widths (C.whole contents.now) widths.now)) }

@@ -20,7 +20,7 @@ pub(crate) use drawing::{PartEnds, Writer};
 pub(crate) use frame_lines::FrameLines;
 pub(crate) use output::{Output, TrimmedText};
 
-/// Measuring, cutting and wrapping texts.
+/// Functions that measure, cut and wrap texts.
 pub mod content_split {
     pub use comfy_parts::content_split::{
         ColumnDisplayInfo, adds_one_column, characters_fit, measure_text_width, split_line,

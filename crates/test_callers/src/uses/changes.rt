@@ -10,7 +10,7 @@ use comfy_table::presets::ASCII_MARKDOWN;
 use comfy_table::{Cell, Column, ContentArrangement, Result, Row, Table, Terminal};
 use std::alloc::Global;
 
-/// Appends a row that has cells. After `OutOfMemory` the table is unchanged.
+/// Appends a row if it has a cell. After `OutOfMemory` the table is unchanged.
 pub fn append_unless_empty(table: &mut Table, row: Row) -> Result<()>
     ensures ok { OnOk result (table.new
         ≡ (if nat_lt 0 (length row.cells) then with_row row table.old else table.old)) }
@@ -19,7 +19,8 @@ pub fn append_unless_empty(table: &mut Table, row: Row) -> Result<()>
     table.try_add_row_if(|_count, row| row.cell_count() > 0, row)
 }
 
-/// Appends rows until memory runs out, and returns the number of rows in the table.
+/// Appends rows until all are appended or memory runs out. Returns the number of rows that were
+/// appended.
 pub fn added_count(table: &mut Table, rows: Vec<Row>) -> usize
     ensures { (result ≤ length rows.items)
         × (table.new ≡ with_rows (take result rows.items) table.old) }
@@ -32,7 +33,7 @@ pub fn added_count(table: &mut Table, rows: Vec<Row>) -> usize
     }
 }
 
-/// A copy of a table with one more row.
+/// Returns a copy of a table, with one more row.
 pub fn copied_with(table: &Table, row: Row) -> Result<Table>
     ensures { IfOk result (λ copy. copy ≡ with_row row table.now) }
 {
@@ -41,8 +42,8 @@ pub fn copied_with(table: &Table, row: Row) -> Result<Table>
     Ok(copy)
 }
 
-/// Appends a cell to the first row. The columns stay as they are, and so does everything if there
-/// is no row.
+/// Appends a cell to the first row. The columns don't change, and the table doesn't change if it
+/// has no row.
 pub fn append_to_first(table: &mut Table, cell: Cell) -> Result<()>
     ensures columns { table.new.columns ≡ table.old.columns }
     ensures none { length table.old.rows ≡ 0 → table.new ≡ table.old }
@@ -53,8 +54,8 @@ pub fn append_to_first(table: &mut Table, cell: Cell) -> Result<()>
     Ok(())
 }
 
-/// Sets the header. The table then has as many columns as before, or as the header has cells if
-/// these are more.
+/// Sets the header. The number of columns is then the greater of two numbers: the number before,
+/// and the number of cells in the header.
 pub fn widen(table: &mut Table, header: Row) -> Result<()>
     ensures { OnOk result (length table.new.columns
         ≡ max (length header.cells) (length table.old.columns)) }
@@ -63,14 +64,15 @@ pub fn widen(table: &mut Table, header: Row) -> Result<()>
     table.try_set_header(header)
 }
 
-/// Copies the padding of a column to another.
+/// Gives the column `to` the padding of the column `from`.
 pub fn copy_padding(from: &Column, to: &mut Column)
     ensures { to.new ≡ record to.old { padding = from.now.padding } }
 {
     to.set_padding(from.padding());
 }
 
-/// Sets the padding of the second column. The rows stay, and the number of columns too.
+/// Sets the padding of the second column, if there is one. Neither the rows nor the number of
+/// columns change.
 pub fn pad_second(table: &mut Table)
     ensures rows { table.new.rows ≡ table.old.rows }
     ensures count { length table.new.columns ≡ length table.old.columns }
@@ -80,7 +82,8 @@ pub fn pad_second(table: &mut Table)
     }
 }
 
-/// Returns a table for a terminal of this width, with all settings.
+/// Returns a new table with this width in terminal columns. Standard output is a terminal of 80
+/// terminal columns, and most other settings are set too.
 pub fn table_for_terminal(alloc: Global, width: u16) -> Result<Table>
     ensures { IfOk result (λ table. table
         ≡ record (new_table ascii_markdown) {

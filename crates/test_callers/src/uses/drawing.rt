@@ -11,14 +11,14 @@ ghost use Rattle.test_callers.specs.Uses.{IsDrawnWhole, IsPrintedWithin, table_w
 
 use comfy_table::laws::{
     cells_keep_their_text, lines_are_found_in_their_texts, new_tables_are_straight,
-    presets_have_columns_of_one,
+    preset_characters_take_one_column,
 };
 use comfy_table::presets::UTF8_FULL;
 use comfy_table::utils::build_table;
 use comfy_table::{ContentArrangement, Lines, Result, Row, Table};
 use std::alloc::Global;
 
-/// Returns the number of lines of a drawing.
+/// Draws a table, and returns the number of lines of the drawing.
 pub fn drawn_height(table: &Table) -> Result<usize>
     ensures { IfOk result (λ height. (lines : List Text) × IsDrawingOf table.now lines
         × (height ≡ length lines)) }
@@ -26,7 +26,7 @@ pub fn drawn_height(table: &Table) -> Result<usize>
     Ok(build_table(table)?.count())
 }
 
-/// A title, and the text of a table after it.
+/// Returns a title, and after it the drawing of a table.
 pub fn titled(alloc: Global, title: &str, table: &Table) -> Result<String>
     ensures { IfOk result (λ text. (drawn : Text) × JoinsLines table.now drawn
         × (string_bytes text ≡ title.now ++ drawn)) }
@@ -36,9 +36,9 @@ pub fn titled(alloc: Global, title: &str, table: &Table) -> Result<String>
     Ok(text)
 }
 
-/// Draws a header and a row within a width, as a program prints them. No line of the text has more
-/// characters than the width, if the texts are printable ASCII, and the width is enough for
-/// borders, paddings and one character for each column.
+/// Draws a table of a header and a row within a width, with a line feed after each line. No line
+/// has more characters than the width, if the texts are printable ASCII, and the width is enough
+/// for borders, paddings and one character for each column.
 pub fn printed_within(alloc: Global, header: Row, row: Row, width: u16) -> Result<String>
     ensures { IfOk result (λ text. IsPrintedWithin width (table_within width header row)
         (string_bytes text)) }
@@ -53,8 +53,8 @@ pub fn printed_within(alloc: Global, header: Row, row: Row, width: u16) -> Resul
     table.to_terminated_text()
 }
 
-/// Draws a text in a table of its own, within a width. The wrapped lines, one after another, have
-/// all characters of the text, in order, except spaces and line feeds.
+/// Draws a text in a table of one cell, within a width. The wrapped lines, one after another, have
+/// all characters of the text in order, except spaces and line feeds.
 pub fn drawn_whole(alloc: Global, text: &str, width: u16) -> Result<Lines>
     ensures { IfOk result (λ lines. IsDrawnWhole (text_within width text.now) text.now lines) }
 {
@@ -67,15 +67,15 @@ pub fn drawn_whole(alloc: Global, text: &str, width: u16) -> Result<Lines>
     table.lines()
 }
 
-/// Draws a report, for example of Chinese names and their counts. All lines take the same number of
-/// terminal columns, for every script.
+/// Draws a report, for example of Chinese names and counts. All lines take the same number of
+/// terminal columns, for every script, if the rows are short (`IsShortRow`).
 pub fn report(alloc: Global, header: Row, rows: Vec<Row>) -> Result<Lines>
     ensures { IfOk result (λ lines. IsShortRow header → All IsShortRow rows.items
         → AreEquallyWide lines) }
 {
     let table = report_table(alloc, header, rows)?;
     new_tables_are_straight();
-    presets_have_columns_of_one();
+    preset_characters_take_one_column();
     table.lines()
 }
 

@@ -10,7 +10,7 @@ ghost use Rattle.test_callers.specs.Uses.{rows_left};
 
 use comfy_table::{Items, Result, Table};
 
-/// Gives a row for each remaining number.
+/// An iterator that yields a row of one number for each remaining number.
 #[derive(Drop)]
 struct NumberRows<'a> {
     left: &'a [u64],
@@ -34,7 +34,7 @@ impl<'a> Items for NumberRows<'a> {
     ghost items_of = { rows_left };
 
     ghost gives_items = { λ numbers from made. record {
-      may_be_asked = tt;
+      can_be_called = tt;
       ends = tt;
       in_order =
           gives_rest (YieldsFirst rows_left) rows_left (λ s t none. ap length none.0)
@@ -42,7 +42,7 @@ impl<'a> Items for NumberRows<'a> {
     } };
 }
 
-/// Appends a row of one cell for each number.
+/// Appends a row of one cell to a table for each of the numbers.
 pub fn append_numbers(table: &mut Table, numbers: &[u64]) -> Result<()>
     ensures { OnOk result (table.new
         ≡ with_rows (map (λ number. plain_row (number_cell number ∷ [])) numbers.now) table.old) }

@@ -8,8 +8,9 @@ ghost use Rattle.test_callers.specs.Uses.{AppendsPageWithin};
 use comfy_table::laws::{lines_are_found_in_their_texts, parts_have_lines_of_the_table};
 use comfy_table::{Result, Table};
 
-/// Appends a page of a table. No line of the page has more characters than the table's width, if
-/// the texts are printable ASCII and the width is enough.
+/// Appends `count` rows of a table to a text, from the row `first` on. No line of them has more
+/// characters than the table's width, if the conditions of `AppendsPageWithin` hold. For example,
+/// the texts must be printable ASCII, and the width must have room for the frame.
 pub fn push_page(table: &Table, text: &mut String, first: usize, count: usize) -> Result<()>
     ensures { OnOk result (AppendsPageWithin table.now (string_bytes text.old)
         (string_bytes text.new)) }
@@ -19,7 +20,7 @@ pub fn push_page(table: &Table, text: &mut String, first: usize, count: usize) -
     table.arranged()?.push_rows(text, first, count)
 }
 
-/// Draws a table in one part, as a program prints it.
+/// Appends the whole drawing of a table to a text, with a line feed after each line.
 pub fn in_one_part(table: &Table, text: &mut String) -> Result<()>
     ensures { OnOk result ((part : Text) × TerminatesLines table.now part
         × (string_bytes text.new ≡ string_bytes text.old ++ part)) }

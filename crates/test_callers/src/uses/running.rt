@@ -1,4 +1,5 @@
-//! Callers that run the program, and create its devices.
+//! Callers that run the program `ctable`, and create the devices from which it reads and to which
+//! it writes.
 
 ghost use Rattle.std.specs.Prelude.{◌≡◌, ◌≤◌, ◌++◌, IfOk, List, None, Some, false, is_some, length, take, true, ℕ};
 
@@ -6,7 +7,8 @@ use comfy_run::run::{DeviceFault, FromReader, MemorySink, Sink, Source, ToWriter
 use std::alloc::Global;
 use std::io::{Read, Write};
 
-/// Runs the program with a width that is no number. It returns 2, reads nothing and draws nothing.
+/// Runs the program with a width that is no number. The program returns 2. It reads nothing from
+/// `source` and writes nothing to `sink`.
 pub fn asks_for_no_number<R: Source, W: Sink, F: Sink>(
     alloc: Global,
     source: &mut R,
@@ -20,8 +22,8 @@ pub fn asks_for_no_number<R: Source, W: Sink, F: Sink>(
     program(alloc, &["wide"], source, sink, messages)
 }
 
-/// Creates the devices over a reader and a writer. Neither has failed, and the reader's end hasn't
-/// been read.
+/// Creates a source that reads from a reader, and a sink that writes to a writer. Neither has
+/// failed, and the end of the source hasn't been read.
 pub fn devices_over<R: Read, W: Write>(reader: R, writer: W) -> (FromReader<R>, ToWriter<W>)
     ensures { result ≡ (
       record {
@@ -35,22 +37,24 @@ pub fn devices_over<R: Read, W: Write>(reader: R, writer: W) -> (FromReader<R>, 
     (FromReader::new(reader), ToWriter::new(writer))
 }
 
-/// Returns the number of bytes that a sink in memory has taken.
+/// Returns the number of bytes that were written to a sink in memory.
 pub fn taken(sink: &MemorySink) -> usize
     ensures { result ≡ length sink.now.bytes }
 {
     sink.bytes().len()
 }
 
-/// Reads once, at most as many bytes as the buffer holds.
+/// Calls `read` once, and returns the number of bytes that were read. It is at most the length of
+/// the buffer.
 pub fn read_once<R: Source>(source: &mut R, buffer: &mut [u8]) -> Result<usize, DeviceFault>
     ensures { IfOk result (λ count. count ≤ length buffer.old) }
 {
     source.read(buffer)
 }
 
-/// Writes once. If a sink gives its bytes, they are those that it had, and then a prefix of the
-/// piece.
+/// Calls `write` once, and returns the number of bytes that were written. If the bytes in the sink
+/// are known, they are its bytes before the call, and after them the first bytes of `piece`, as
+/// many as were written.
 pub fn write_once<W: Sink>(sink: &mut W, piece: &[u8]) -> Result<usize, DeviceFault>
     ensures { IfOk result (λ count. (had : List ℕ) → W.taken sink.old ≡ Some had
         → W.taken sink.new ≡ Some (had ++ take count piece.now)) }
@@ -58,8 +62,9 @@ pub fn write_once<W: Sink>(sink: &mut W, piece: &[u8]) -> Result<usize, DeviceFa
     sink.write(piece)
 }
 
-/// Runs the program over a reader and writers, as the standard streams are. If it returns true, the
-/// reader's end was read, and neither the reader nor the writer has failed.
+/// Runs the program with a reader and two writers, and returns true if its status is 0. In this
+/// case the end of the reader was read. Neither the reader nor the writer of `sink` has failed, if
+/// that writer hadn't failed before.
 pub fn drew_all<R: Read, W: Write, E: Write>(
     alloc: Global,
     words: &[&str],

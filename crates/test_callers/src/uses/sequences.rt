@@ -20,10 +20,10 @@ use comfy_table::utils::formatting::content_split::ColumnDisplayInfo;
 use comfy_table::{Cell, Lines, Result, Row, Table};
 use std::alloc::Global;
 
-/// Draws a table with sequences inside its cells. No text that is written for a line of a cell
-/// leaves a sequence open. The lines that aren't cut resume the sequences of the cell, and the
-/// others are closed. If nothing else has ESC, the drawing without its sequences is the one without
-/// styling.
+/// Draws a table with SGR sequences inside its cells. No text that is written for a line of a cell
+/// leaves a sequence open. Lines that aren't cut resume the sequences of the cell, and cut lines
+/// are closed. If nothing else has ESC, the drawing without its sequences is the drawing without
+/// colours and attributes.
 pub fn drawn_with_sequences(table: &mut Table) -> Result<Lines>
     ensures set { table.new ≡ record table.old { custom_styling = true } }
     ensures closed { IfOk result (IsDrawnWithCells (NoneIsOpenAtTheEnd table.new) table.new) }
@@ -36,8 +36,9 @@ pub fn drawn_with_sequences(table: &mut Table) -> Result<Lines>
     table.lines()
 }
 
-/// Draws a table, with colours or without. Its visible lines are equally wide if the table is
-/// straight over any widths, and neither its texts nor its indicator and style have ESC.
+/// Draws a table, with colours or without. Its lines without SGR sequences are equally wide if the
+/// table is straight over any widths of columns (`IsStraightTable`), and neither its texts nor its
+/// indicator and style have ESC.
 pub fn drawn_in_colour(table: &Table) -> Result<Lines>
     ensures { IfOk result (λ lines. IsFreeOfEscapes table.now
         → ((widths : List ℕ) → IsStraightTable table.now widths)
@@ -46,8 +47,8 @@ pub fn drawn_in_colour(table: &Table) -> Result<Lines>
     table.lines()
 }
 
-/// Draws a header and a row with sequences inside their cells, as a program prints them. No line of
-/// the text leaves a sequence open.
+/// Draws a table of a header and a row with SGR sequences inside their cells, and returns its text.
+/// No line of the text leaves a sequence open.
 pub fn printed_closed(alloc: Global, header: Row, row: Row) -> Result<String>
     ensures { IfOk result (λ text. All LeavesNoneOpen
         (slice_split (λ b. b == 10) (string_bytes text))) }
@@ -59,8 +60,8 @@ pub fn printed_closed(alloc: Global, header: Row, row: Row) -> Result<String>
     table.to_terminated_text()
 }
 
-/// Draws a header and a row as a program prints them. If their texts have no control character,
-/// line feeds are the only ones of the text.
+/// Draws a table of a header and a row, and returns its text. If the cells have no control
+/// character, line feeds are the only control characters of the text.
 pub fn printed_without_controls(alloc: Global, header: Row, row: Row) -> Result<String>
     ensures { IfOk result (λ text. IsFreeOfControls (table_of_two header row)
         → All HasNoControl (slice_split (λ b. b == 10) (string_bytes text))) }
@@ -82,7 +83,8 @@ pub fn turned_on(table: &mut Table) -> bool
     was
 }
 
-/// Returns a text, with a reset after it if it leaves a sequence open.
+/// Returns a copy of a text, with the sequence `ESC[0m` after it if the text leaves an SGR sequence
+/// open.
 pub fn closed_text(alloc: Global, text: &str) -> Result<String>
     ensures { IfOk result (λ whole. string_bytes whole ≡ closed text.now) }
 {
@@ -93,7 +95,8 @@ pub fn closed_text(alloc: Global, text: &str) -> Result<String>
     Ok(whole)
 }
 
-/// Returns the visible width of the first text line of a cell.
+/// Returns the width of the first text line of a cell in terminal columns, without its SGR
+/// sequences. `None` if the cell has no text line.
 pub fn first_visible_width(cell: &Cell) -> Option<usize>
     ensures { result ≡ slice_get (map measure (map visible_text cell.now.text_lines)) 0 }
 {
@@ -101,7 +104,7 @@ pub fn first_visible_width(cell: &Cell) -> Option<usize>
     widths.first().copied()
 }
 
-/// Returns a copy of the visible text of a text line.
+/// Returns a copy of a cell's text line at a position, without its SGR sequences.
 pub fn visible_line(alloc: Global, cell: &Cell, position: usize) -> Result<String>
     requires { position < length cell.now.text_lines }
     ensures { IfOk result (λ text. slice_get (map visible_text cell.now.text_lines) position
@@ -111,14 +114,14 @@ pub fn visible_line(alloc: Global, cell: &Cell, position: usize) -> Result<Strin
     Ok(String::from_str(alloc, texts[position].as_str())?)
 }
 
-/// Returns true if a cell has no ESC, so that it is written as it is.
+/// Returns true if a cell's text has no ESC, so that it is written without changes.
 pub fn is_written_as_it_is(cell: &Cell) -> bool
     ensures { result ≡ not (list_any has_escape cell.now.text_lines) }
 {
     !has_escape(cell)
 }
 
-/// Returns the number of lines that are written for a cell in a column with its own delimiter.
+/// Returns the number of lines that are written for a cell in a column, if texts break at commas.
 pub fn written_height(cell: &Cell, info: &ColumnDisplayInfo) -> Result<usize>
     ensures { IfOk result (λ height. height
         ≡ length (line_texts info.now.content_width 44 cell.now.text_lines)) }

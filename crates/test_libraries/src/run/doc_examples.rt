@@ -20,7 +20,7 @@ fn records_of_a_text(
     options: InputOptions,
 ) -> Result<(), RecordsError> {
     let records = read_records(alloc, "name,days\noats,3\n", &options)?;
-    let below = records.rows().rows_behind(1);
+    let below = records.rows().rows_after(1);
     // one record, whose field at position 1 is 3
     assert!(rt; below.len() == 1);
     let record = below.first().expect(rt, "a record");
@@ -33,7 +33,7 @@ fn records_of_fields(rt: &impl Abort, alloc: Global) -> Result<(), AllocError> {
     // two records of two fields each
     let records = records.expect(rt, "records");
     assert!(rt; records.rows().len() == 2);
-    let second = records.rows().rows_behind(1).first().expect(rt, "a record");
+    let second = records.rows().rows_after(1).first().expect(rt, "a record");
     assert!(rt; second.len() == 2 && second.get(0) == Some("oats"));
     Ok(())
 }

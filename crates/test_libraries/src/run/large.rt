@@ -23,7 +23,7 @@ struct Large {
     drawn_in_40: Pieces,
 }
 
-// 5,000 lines, 200 kB.
+// An input of 5,000 lines, 200 kB.
 const ROWS: Large = Large {
     tabs: &[("qwertyuio\tabcdefghi\tABCDEFGHI\tzxcvbnmas\n", 5000)],
     commas: &[("qwertyuio,abcdefghi,ABCDEFGHI,zxcvbnmas\n", 5000)],
@@ -56,7 +56,7 @@ const ROWS: Large = Large {
     ],
 };
 
-// 1,001 columns. In 40 terminal columns each has one.
+// An input of 1,001 columns. With a width of 40, each column has one terminal column for its texts.
 const COLUMNS: Large = Large {
     tabs: &[
         ("ab", 1),
@@ -102,7 +102,7 @@ const COLUMNS: Large = Large {
     ],
 };
 
-// A cell of 21,000 text lines, above 1 MB.
+// An input with a cell of 21,000 text lines, above 1 MB.
 const FIELD: Large = Large {
     tabs: &[
         ("head\n", 1),
@@ -142,7 +142,8 @@ const FIELD: Large = Large {
     ],
 };
 
-// A field of 774 red words, 10 kB, whose sequences count nothing.
+// An input with a field of 774 red words, 10 kB. The SGR sequences of the words take no terminal
+// columns.
 const SEQUENCES: Large = Large {
     tabs: &[],
     commas: &[

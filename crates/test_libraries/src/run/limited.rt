@@ -10,7 +10,7 @@ use std::alloc::{Alloc, Global};
 use std::io::{self, Read};
 use std::process::Abort;
 
-// A reader that gives at most this many bytes at a call, and the number of bytes that it gave.
+// A reader that gives at most `most` bytes at a call, and the number of bytes that it gave.
 #[derive(Drop)]
 struct PartedReader<'a> {
     rest: &'a [u8],
@@ -35,8 +35,8 @@ const INPUT: Pieces = &[("a,b\n", 1), ("x,12\n", 40_000)];
 // The greatest numbers of bytes at a call: all that are wanted, 40,000, 1,000, 7.
 const PARTS: [usize; 4] = [usize::MAX, 40_000, 1_000, 7];
 
-// The number of bytes that are read under this limit, if a call gives at most this many, and the
-// drawing.
+// The number of bytes that are read under this limit, if each call gives at most `most` bytes, and
+// the drawing.
 fn drawn(
     rt: &(impl Abort + Alloc<A = Global>),
     limit: usize,
@@ -91,7 +91,7 @@ fn as_much_is_read_as_the_limit_asks_for(rt: HostRuntime) {
     }
 }
 
-// These bytes, and then 80,000 bytes of records: more than is read at first.
+// The bytes of `front`, and after them 80,000 bytes of records: more than is read at first.
 fn large_input(rt: &(impl Abort + Alloc<A = Global>), front: &[u8]) -> Vec<u8> {
     let mut input = Vec::from_slice(rt.alloc(), front).expect(rt, "memory");
     for _ in 0..20_000 {

@@ -30,7 +30,7 @@ const DRAWN_IN_40: &str = "\
 └────────────┴────────────┴────────────┘
 ";
 
-/// The drawing of two rows of two cells.
+/// The drawing of two rows of two cells, the first of which is the header.
 pub const SMALL: &str = "\
 +---+---+
 | a | b |
@@ -131,8 +131,8 @@ const DRAWINGS: [DrawnRun; 15] = [
     ),
     // sequences stay as they are
     (&[], b"h\n\x1b[1mab\x1b[0m\n", BOLD),
-    // borders and paddings take 7 of the 30 columns, and the longest texts 10 of the other 23; of
-    // the remaining 13 the first column gets 7 and the second 6
+    // borders and paddings take 7 of the 30 terminal columns, and the longest texts take 10 of the
+    // other 23. Of the remaining 13 the first column gets 7 and the second 6.
     (&["30", "full"], b"Hello\tthere\na\tb\n", WIDENED),
 ];
 

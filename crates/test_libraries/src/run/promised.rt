@@ -116,7 +116,7 @@ fn promised_widths_are_those_of_the_program(rt: HostRuntime) {
     assert!(rt; output_within(rt.alloc(), &filled, TERMINAL, input, 1000).is_some());
 }
 
-// True if `output_with_all_fields` returns a drawing for these words.
+// Returns true if `output_with_all_fields` returns a drawing for these words.
 fn is_promised(rt: &impl Alloc<A = Global>, words: &[&str]) -> bool {
     output_with_all_fields(rt.alloc(), words, TERMINAL, FILE.as_bytes(), 400).is_some()
 }

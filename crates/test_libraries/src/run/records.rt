@@ -62,7 +62,7 @@ fn delimiters_that_are_not_ascii(rt: HostRuntime) {
     let whole = read_records(rt.alloc(), "a,b\né,d\n", &between(rt.alloc(), 255).input);
     let whole = whole.expect(&rt, "records");
     assert!(rt; whole.rows().len() == 2);
-    let second = whole.rows().rows_behind(1).first().expect(&rt, "a record");
+    let second = whole.rows().rows_after(1).first().expect(&rt, "a record");
     assert!(rt; second.len() == 1 && second.get(0) == Some("é,d"));
     assert!(rt; whole.rows().first_rows(1).len() == 1);
 }

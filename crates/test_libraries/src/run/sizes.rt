@@ -8,7 +8,7 @@ use csv_tables::RowSeparators;
 use std::alloc::{Alloc, AllocError, Global};
 use std::process::Abort;
 
-// A text many times, after another and before a third.
+// The text `first`, then `piece` many times, then `last`.
 fn repeated(
     alloc: Global,
     first: &str,

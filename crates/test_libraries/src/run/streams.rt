@@ -12,7 +12,7 @@ use std::alloc::{Alloc, Global};
 use std::io::{self, Read, Write};
 use std::process::Abort;
 
-/// Neither a width nor an arrangement.
+/// Settings without a width, with the arrangement `Disabled` and the style `ASCII_FULL`.
 pub const PLAIN: Settings = Settings {
     width: None,
     arrangement: ContentArrangement::Disabled,

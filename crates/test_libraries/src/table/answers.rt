@@ -95,7 +95,7 @@ fn table_on_stdout(rt: &impl Alloc<A = Global>) -> Table {
 }
 
 #[test]
-fn each_switch_changes_what_is_said_of_the_terminal(rt: HostRuntime) {
+fn each_switch_changes_the_terminal(rt: HostRuntime) {
     let mut table = table_on_stdout(&rt);
     assert_terminal(&rt, &table, true, Some(12), true);
     table.use_stderr();

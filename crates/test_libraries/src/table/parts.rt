@@ -246,7 +246,7 @@ fn rows_one_after_another_make_the_whole(rt: HostRuntime) {
     );
 }
 
-// Draws a row of lent texts below others.
+// Draws a row of cells that borrow their texts, below other rows.
 fn lent_row(rt: &impl Alloc<A = Global>, table: &Table) -> comfy_table::Result<String> {
     let mut cells = Vec::new(rt.alloc());
     if let Some(day) = TextCell::of_line("4 May", None, None) {

@@ -43,7 +43,7 @@ fn rows_before_a_refused_one_stay(rt: HostRuntime) {
     }
 }
 
-// The same with a predicate.
+// The rows before a refused one stay in the table, also in a call with a predicate.
 #[test]
 fn rows_before_a_refused_one_stay_on_a_condition(rt: HostRuntime) {
     for position in 0..3 {

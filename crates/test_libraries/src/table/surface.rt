@@ -67,8 +67,8 @@ const BIKES: &str = "\
 
 // The answer of a predicate that is called with a number of rows. It keeps this number, or a
 // greater one if it is called again.
-fn answer(asked: &cell::Cell<Option<usize>>, rows: usize, yes: bool) -> bool {
-    asked.set(Some(asked.get().map_or(rows, |_| usize::MAX)));
+fn answer(called: &cell::Cell<Option<usize>>, rows: usize, yes: bool) -> bool {
+    called.set(Some(called.get().map_or(rows, |_| usize::MAX)));
     yes
 }
 
@@ -81,23 +81,23 @@ fn table_of_two(rt: &(impl Abort + Alloc<A = Global>)) -> Table {
 
 // Offers a row to a table of two rows. The predicate is called once, with 2.
 fn offer_row(rt: &(impl Abort + Alloc<A = Global>), yes: bool, wanted: &str) {
-    let asked = cell::Cell::new(None);
+    let called = cell::Cell::new(None);
     let mut table = table_of_two(rt);
     table
-        .add_row_if(|rows, _row| answer(&asked, rows, yes), ["e", "f"])
+        .add_row_if(|rows, _row| answer(&called, rows, yes), ["e", "f"])
         .expect(rt, "memory");
-    assert!(rt; asked.get() == Some(2));
+    assert!(rt; called.get() == Some(2));
     assert_drawn(rt, &table, wanted);
 }
 
 // Offers the same row in a list.
 fn offer_rows(rt: &(impl Abort + Alloc<A = Global>), yes: bool, wanted: &str) {
-    let asked = cell::Cell::new(None);
+    let called = cell::Cell::new(None);
     let mut table = table_of_two(rt);
     table
-        .add_rows_if(|rows, _rows| answer(&asked, rows, yes), [["e", "f"]])
+        .add_rows_if(|rows, _rows| answer(&called, rows, yes), [["e", "f"]])
         .expect(rt, "memory");
-    assert!(rt; asked.get() == Some(2));
+    assert!(rt; called.get() == Some(2));
     assert_drawn(rt, &table, wanted);
 }
 
@@ -111,7 +111,7 @@ const THREE_ROWS: &str = "\
 +---+---+";
 
 #[test]
-fn a_predicate_is_asked_once(rt: HostRuntime) {
+fn a_predicate_is_called_once(rt: HostRuntime) {
     offer_row(&rt, true, THREE_ROWS);
     offer_row(&rt, false, TWO_ROWS);
     offer_rows(&rt, true, THREE_ROWS);

@@ -1,4 +1,5 @@
-//! Tables: the calls behind `lines`, cells of a column, lent parts, and the widest paddings.
+//! Tables: the calls that `lines` makes, cells of a column, borrowed parts, and the widest
+//! paddings.
 
 use crate::support::{
     README_DRAWN, assert_drawn, assert_given, assert_lines, assert_number, row_of, table_of,
@@ -57,17 +58,17 @@ fn assert_formatted(rt: &(impl Abort + Alloc<A = Global>), table: &Table) {
 const SECOND_CELLS: [Option<&str>; 3] = [Some("Second"), None, Some("Fifth")];
 
 #[test]
-fn cells_of_a_column_stand_behind_that_of_the_header(rt: HostRuntime) {
+fn cells_of_a_column_follow_that_of_the_header(rt: HostRuntime) {
     let mut table = table_of(&rt, ["First", "Second"]);
     table.try_add_row(["Third"]).expect(&rt, "memory");
     table.try_add_row(["Fourth", "Fifth"]).expect(&rt, "memory");
     assert_cells(&rt, table.column_cells_iter(1));
-    assert_cells_behind(&rt, &table, None);
+    assert_cells_after(&rt, &table, None);
     table.try_set_header(["A", "B"]).expect(&rt, "memory");
-    assert_cells_behind(&rt, &table, Some("B"));
+    assert_cells_after(&rt, &table, Some("B"));
 }
 
-fn assert_cells_behind(rt: &impl Abort, table: &Table, header: Option<&str>) {
+fn assert_cells_after(rt: &impl Abort, table: &Table, header: Option<&str>) {
     let mut cells = table.column_cells_with_header_iter(1);
     assert_cell(rt, cells.next(), header);
     assert_cells(rt, cells);

@@ -1,4 +1,4 @@
-//! Characters that fit their columns, so that the edges of their table are promised to be straight.
+//! The condition for straight edges: each character fits its column.
 
 use comfy_table::utils::arrangement::arrange_content;
 use comfy_table::utils::formatting::content_split::{
@@ -7,7 +7,7 @@ use comfy_table::utils::formatting::content_split::{
 use comfy_table::{Cell, Result, Row, Table};
 use std::alloc::Global;
 
-/// True if each visible character of a text in a shown column fits the column.
+/// Returns true if each visible character of the texts in shown columns has room in its column.
 pub fn characters_fit_columns(alloc: Global, table: &Table) -> Result<bool> {
     let infos = arrange_content(table)?;
     let mut do_fit = true;

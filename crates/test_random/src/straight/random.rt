@@ -11,7 +11,7 @@ use rand::RngExt;
 use rand_pcg::Pcg32;
 use std::alloc::Global;
 
-// the first two leave columns apart if no line is between them, and the last one doesn't
+// the last padding doesn't keep columns apart that have no line between them
 const PADDINGS: [(u16, u16); 4] = [(1, 0), (0, 2), (1, 1), (0, 0)];
 
 const CONSTRAINTS: [ColumnConstraint; 4] = [
@@ -21,14 +21,14 @@ const CONSTRAINTS: [ColumnConstraint; 4] = [
     ColumnConstraint::UpperBoundary(Width::Fixed(9)),
 ];
 
-/// The visible width of a line, in terminal columns.
+/// Returns the width of a line in terminal columns, without its SGR sequences.
 pub fn visible_width(alloc: Global, line: &str) -> Result<usize> {
     let visible = visible_text(alloc, line)?;
     Ok(measure_text_width(visible.as_str()))
 }
 
-/// The kind of words in a table: any words if it is as wide as its texts, and otherwise often
-/// narrow ones, for narrow columns.
+/// Returns a random kind of words for a table. If `is_shown_whole` is true, the table is as wide as
+/// its texts, and has words of any width. Otherwise words are often narrow, because columns may be.
 pub fn words(rng: &mut Pcg32, is_shown_whole: bool) -> Words {
     let have_sequences = once_in(rng, 3);
     Words {
@@ -38,12 +38,13 @@ pub fn words(rng: &mut Pcg32, is_shown_whole: bool) -> Words {
     }
 }
 
-/// True if the next row is cut. None is in a table that is as wide as its texts.
+/// Returns true if the next row gets a greatest height, at random. If `is_shown_whole` is true, no
+/// row gets one.
 pub fn is_cut(rng: &mut Pcg32, is_shown_whole: bool) -> bool {
     !is_shown_whole && once_in(rng, 2)
 }
 
-/// A preset, sometimes with modifiers.
+/// Returns a random preset, sometimes with round corners or solid inner borders.
 pub fn style(rng: &mut Pcg32) -> TableStyle {
     let (_, mut style) = one_of(rng, &ALL, ("UTF8_FULL", UTF8_FULL));
     if once_in(rng, 3) {
@@ -55,7 +56,8 @@ pub fn style(rng: &mut Pcg32) -> TableStyle {
     style
 }
 
-/// A row of up to three cells, which has at most three lines if it is cut.
+/// Makes a random row of one to three cells. If `is_cut` is true, the row gets a greatest height of
+/// one to three lines.
 pub fn row(alloc: Global, rng: &mut Pcg32, words: Words, is_cut: bool) -> Result<Row> {
     let mut row = Row::new(alloc);
     add_cells(alloc, rng, &mut row, words)?;
@@ -86,8 +88,9 @@ fn with_looks(rng: &mut Pcg32, cell: Cell) -> Cell {
     }
 }
 
-/// Gives all columns the same padding, which keeps them apart if no line is between them, and some
-/// of them a constraint.
+/// Gives all columns the same random padding, and some columns a constraint. If `has_lines_between`
+/// is false, the padding keeps columns apart. If `is_shown_whole` is true, `Hidden` is the only
+/// constraint.
 pub fn set_columns(
     rng: &mut Pcg32,
     columns: &mut [Column],

@@ -14,14 +14,14 @@ loop-attribute-preserved c =
     let rest : ℕ = c.loop-attribute.rest in
     let had : List Attribute = c.loop-attribute.attributes.items in
     let below : i < length all = search rules in
-    let behind : List Attribute = attributes_by (drop (i + 1) all) (rest / 2) in
+    let after : List Attribute = attributes_by (drop (i + 1) all) (rest / 2) in
     let more = attributes_more all i Reset below rest had in
     elim c.if-rest-eq1.branch [
       | then-rest-eq1+in_ok-push w ↦
           let test : (rest % 2 == 1) ≡ true = search (rules, tests) in
           let pushed : w.push.new.self.items ≡ had ++ get_or all i Reset ∷ [] = search rules in
-          c.loop-attribute.invariant ∙ more ∙ ap (λ b. (had ++ cond b (get_or all i Reset ∷ []) []) ++ behind) test ∙ ap (λ (xs : List Attribute). xs ++ behind) (sym pushed) ∙ ap (λ v. v.items ++ behind) (sym w.attributes-is)
+          c.loop-attribute.invariant ∙ more ∙ ap (λ b. (had ++ cond b (get_or all i Reset ∷ []) []) ++ after) test ∙ ap (λ (xs : List Attribute). xs ++ after) (sym pushed) ∙ ap (λ v. v.items ++ after) (sym w.attributes-is)
       | else-rest-eq1 w ↦
           let test : (rest % 2 == 1) ≡ false = search (rules, tests) in
-          c.loop-attribute.invariant ∙ more ∙ ap (λ b. (had ++ cond b (get_or all i Reset ∷ []) []) ++ behind) test ∙ ap (λ (xs : List Attribute). xs ++ behind) (append-nil had) ∙ ap (λ v. v.items ++ behind) (sym w.attributes-is)
+          c.loop-attribute.invariant ∙ more ∙ ap (λ b. (had ++ cond b (get_or all i Reset ∷ []) []) ++ after) test ∙ ap (λ (xs : List Attribute). xs ++ after) (append-nil had) ∙ ap (λ v. v.items ++ after) (sym w.attributes-is)
     ]

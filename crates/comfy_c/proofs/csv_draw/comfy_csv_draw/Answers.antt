@@ -2,7 +2,7 @@ use Rattle.std.proofs.Common.{◌≡◌, ◌∙◌, ap, length, rules, string_by
 use Rattle.csv_command.specs.declared.drawing.Refusal.{Refusal}
 use Rattle.csv_command.specs.declared.drawing.Refusal.TheVariants.{Input}
 use Rattle.comfy_parts.specs.Text.{Text}
-use Rattle.comfy_c.proofs.CallLemmas.{handed, in_front}
+use Rattle.comfy_c.proofs.CallLemmas.{in_front, returned}
 use Rattle.comfy_c.specs.Calls.{IsCsvDrawing, IsCsvRefusal, IsInputMessage}
 use Rattle.comfy_c.proofs.csv_draw.comfy_csv_draw.Goals as goal
 
@@ -25,6 +25,6 @@ pub returns-in-Err-Input-clause-input_refused : goal.returns-in-Err-Input-clause
 returns-in-Err-Input-clause-input_refused c is =
     let line = c.in-Err-Input.line in
     let of_input : c.in-Err-Input.field-0 ≡ Input line = search rules in
-    let said : IsInputMessage c.in-Ok.text.now c.args.input.now (string_bytes line) = subst (λ (refusal : Refusal). IsCsvRefusal c.in-Ok.text.now c.args.input.now refusal) of_input c.in-Err-Input.ensures.refused in
-    handed (IsInputMessage c.args.arguments.now c.args.input.now) c.as_bytes-in-Err-Input.result.now c.args.output.now c.put-in-Err-Input.ensures.needed c.put-in-Err-Input.ensures.output c.as_bytes-in-Err-Input.ensures.value
-    (subst (λ (arguments : Text). IsInputMessage arguments c.args.input.now (string_bytes line)) c.in-Ok.ensures.cases.0 said)
+    let known : IsInputMessage c.in-Ok.text.now c.args.input.now (string_bytes line) = subst (λ (refusal : Refusal). IsCsvRefusal c.in-Ok.text.now c.args.input.now refusal) of_input c.in-Err-Input.ensures.refused in
+    returned (IsInputMessage c.args.arguments.now c.args.input.now) c.as_bytes-in-Err-Input.result.now c.args.output.now c.put-in-Err-Input.ensures.needed c.put-in-Err-Input.ensures.output c.as_bytes-in-Err-Input.ensures.value
+    (subst (λ (arguments : Text). IsInputMessage arguments c.args.input.now (string_bytes line)) c.in-Ok.ensures.cases.0 known)

@@ -19,23 +19,23 @@ returns-clause-drawn c =
     let counts = c.args.counts.now in
     let looks = c.args.looks.now in
     let heights = c.args.heights.now in
-    let asked = c.args.columns.now in
+    let chosen = c.args.columns.now in
     let rows : List (List Text) = rows_of c.args.texts.now c.args.lengths.now counts in
     let selection = selection_for settings in
     let drawing = string_bytes c.in_ok-output_of_styled_records.field-0 in
     let layout : Selection → Layout = λ (s : Selection). record { selection = s; columns = c.in-Some-2.columns; look = c.in-Some.look } in
-    let can : can_have settings looks heights asked ≡ true = search (rules, tests) in
+    let can : can_have settings looks heights chosen ≡ true = search (rules, tests) in
     let each : are_each looks c.args.lengths.now heights counts ≡ true = search (rules, tests) in
     let look : look_for settings ≡ Some c.in-Some.look = search rules in
-    let columns : columns_for selection asked rows ≡ Some c.in-Some-2.columns = search rules in
-    let own : c.in_ok-own.own ≡ table_settings (is_set settings.has_header) counts looks heights asked =
-    c.in_ok-own.ensures ∙ ap (λ (s : Selection). table_settings s.has_header counts looks heights asked) c.selection-selection.ensures in
+    let columns : columns_for selection chosen rows ≡ Some c.in-Some-2.columns = search rules in
+    let own : c.in_ok-own.own ≡ table_settings (is_set settings.has_header) counts looks heights chosen =
+    c.in_ok-own.ensures ∙ ap (λ (s : Selection). table_settings s.has_header counts looks heights chosen) c.selection-selection.ensures in
     record {
       add_up = (c.in_ok-records.ensures.all, each);
       are_texts = c.in_ok-records.ensures.texts;
       is_text = IsUtf8-string_bytes c.in_ok-output_of_styled_records.field-0;
       layout = layout selection;
-      is_layout = ap (λ (b : Bool). if b then layout_by selection (look_for settings) (columns_for selection asked rows) else None) can ∙ ap₂ (layout_by selection) look columns;
+      is_layout = ap (λ (b : Bool). if b then layout_by selection (look_for settings) (columns_for selection chosen rows) else None) can ∙ ap₂ (layout_by selection) look columns;
       is_output =
           subst (λ (own : SettingsValue). RendersAnyStyledRecords own (layout selection) rows drawing) own
           (subst (λ (rs : List (List Text)). RendersAnyStyledRecords c.in_ok-own.own (layout selection) rs drawing) c.in_ok-records.ensures.records

@@ -10,10 +10,10 @@ loop-part-preserved c =
     let d = c.args.delimiter in
     let rest = c.loop-part.rest.now in
     let done = c.loop-part.parts.items in
-    let cut = elements-around d rest c.in-Some.part.now c.in-Some.behind.now c.ranges.delimiter.0 c.loop-part.invariant.utf8 c.in-Some.ensures.cases in
+    let cut = elements-around d rest c.in-Some.part.now c.in-Some.after.now c.ranges.delimiter.0 c.loop-part.invariant.utf8 c.in-Some.ensures.cases in
     record {
-      utf8 = utf8-around d rest c.in-Some.part.now c.in-Some.behind.now c.loop-part.invariant.utf8 c.in-Some.ensures.cases;
-      parts = pushed (λ x. x.now) done c.in-Some.part c.push.new.self.items (elements d c.in-Some.behind.now) (elements d c.args.line.now) c.in_ok-push.ensures.items
+      utf8 = utf8-around d rest c.in-Some.part.now c.in-Some.after.now c.loop-part.invariant.utf8 c.in-Some.ensures.cases;
+      parts = pushed (λ x. x.now) done c.in-Some.part c.push.new.self.items (elements d c.in-Some.after.now) (elements d c.args.line.now) c.in_ok-push.ensures.items
           (ap (λ es. map (λ x. x.now) done ++ es) (sym cut) ∙ c.loop-part.invariant.parts);
     }
 

@@ -1,5 +1,5 @@
-//! The columns of each character that joins no other, and 3 of each that joins others.
-//! tools/make/own_widths.py writes this.
+//! The width in terminal columns of each character that joins no other. The entry 3 marks a
+//! character that joins others. `tools/make/own_widths.py` writes this file.
 
 #[rattlefmt::skip]
 pub(super) static INDEX: [u8; 1014] = [

@@ -1,9 +1,9 @@
-//! A cursor that passes once over the text lines of a cell, and knows the sequences that are open
-//! at its position.
+//! A cursor that passes once over the text lines of a cell, and knows the colour sequences that are
+//! open at its position. A sequence is open until the next `ESC[0m`.
 
 ghost use Rattle.std.specs.Prelude.{◌≡◌, ◌<◌, ◌++◌, [], true, false, map, take, drop, IfOk, IsUtf8, OnOk, string_bytes};
 ghost use Rattle.std.specs.List.{concat};
-ghost use Rattle.comfy_parts.specs.Cursor.{IsBehindGap, StandsAt, at_byte, begins_with_sequence, behind_bytes, bytes_up_to, character_parts, open_at_end, past_sequence, visible_ahead, sequence_part};
+ghost use Rattle.comfy_parts.specs.Cursor.{IsAfterGap, IsAt, at_byte, begins_with_sequence, past_bytes, bytes_up_to, character_parts, open_at_end, past_sequence, visible_ahead, sequence_part};
 ghost use Rattle.comfy_parts.specs.Text.{begins_with};
 ghost use Rattle.comfy_parts.specs.VisibleText.{opened_by, parts};
 ghost use Rattle.comfy_parts.specs.Written.{written};
@@ -13,7 +13,8 @@ use crate::error::Result;
 use std::alloc::Global;
 use std::marker::Model;
 
-/// A position in a text line of a cell, and the sequences that are open there.
+/// A position in a text line of a cell, and the colour sequences that are open there. A sequence is
+/// open until the next `ESC[0m`, also in later text lines.
 #[derive(Drop)]
 pub(crate) struct Cursor<'a> {
     rest: &'a str,
@@ -36,7 +37,7 @@ impl<'a> Model for Cursor<'a> {
 }
 
 impl<'a> Cursor<'a> {
-    /// A cursor before the first text line of a cell.
+    /// A cursor before the first text line of a cell, at which no sequence is open.
     pub(crate) fn new(alloc: Global) -> Cursor<'a>
         ensures { result ≡ record { sequences = []; ahead = [] } }
     {
@@ -46,8 +47,8 @@ impl<'a> Cursor<'a> {
         }
     }
 
-    /// Moves to the front of the next text line. Sequences that are open at the end of the text
-    /// line before it stay open.
+    /// Moves to the front of `text`, the next text line of the cell. Sequences that are open at the
+    /// end of the text line before it remain open. The only error is `OutOfMemory`.
     pub(crate) fn begin(&mut self, text: &'a str) -> Result<()>
         ensures { OnOk result (self.new ≡ record {
           sequences = open_at_end self.old;
@@ -63,9 +64,10 @@ impl<'a> Cursor<'a> {
         Ok(())
     }
 
-    /// Passes the sequences and the delimiters before the next line.
+    /// Passes the sequences and the delimiters before the next line. The only error is
+    /// `OutOfMemory`.
     pub(crate) fn pass_gap(&mut self, delimiter: char) -> Result<()>
-        ensures { OnOk result (IsBehindGap delimiter self.old self.new) }
+        ensures { OnOk result (IsAfterGap delimiter self.old self.new) }
     {
         self.pass_sequences()?;
         'gap: while self.pass_delimiter(delimiter) {
@@ -75,12 +77,13 @@ impl<'a> Cursor<'a> {
     }
 
     /// Returns the text that is written for a line of `bytes` visible bytes, and passes these
-    /// bytes. A line of no bytes has an empty text.
+    /// bytes. The text begins with the open sequences, and ends with `ESC[0m` if a sequence is then
+    /// open. For 0 bytes it is empty. The only error is `OutOfMemory`.
     pub(crate) fn take_line(&mut self, bytes: usize) -> Result<String>
         requires { IsUtf8 (take bytes (visible_ahead self.old)) }
         ensures written { IfOk result
             (λ line. string_bytes line ≡ written bytes (at_byte 0 self.old)) }
-        ensures stands { OnOk result (StandsAt self.new bytes self.old) }
+        ensures is_at { OnOk result (IsAt self.new bytes self.old) }
         ensures visible { OnOk result
             (visible_ahead self.new ≡ drop bytes (visible_ahead self.old)) }
     {
@@ -109,7 +112,7 @@ impl<'a> Cursor<'a> {
     fn take_visible(&mut self, bytes: usize) -> Result<&'a str>
         requires { IsUtf8 (take bytes (visible_ahead self.old)) }
         ensures taken { IfOk result (λ taken. taken.now ≡ bytes_up_to bytes self.old) }
-        ensures passed { OnOk result (self.new ≡ behind_bytes bytes self.old) }
+        ensures passed { OnOk result (self.new ≡ past_bytes bytes self.old) }
         ensures visible { OnOk result
             (visible_ahead self.new ≡ drop bytes (visible_ahead self.old)) }
     {
@@ -123,7 +126,7 @@ impl<'a> Cursor<'a> {
     // text line if it has fewer.
     fn pass_visible(&mut self, bytes: usize) -> Result<()>
         requires { IsUtf8 (take bytes (visible_ahead self.old)) }
-        ensures passed { OnOk result (self.new ≡ behind_bytes bytes self.old) }
+        ensures passed { OnOk result (self.new ≡ past_bytes bytes self.old) }
         ensures visible { OnOk result
             (visible_ahead self.new ≡ drop bytes (visible_ahead self.old)) }
     {
@@ -132,8 +135,8 @@ impl<'a> Cursor<'a> {
             if self.pass_sequence()? {
                 continue;
             }
-            let (passed, behind) = split_visible(self.rest, left);
-            self.rest = behind;
+            let (passed, after) = split_visible(self.rest, left);
+            self.rest = after;
             if passed.is_empty() {
                 return Ok(());
             }
@@ -155,10 +158,10 @@ impl<'a> Cursor<'a> {
         ensures passed { IfOk result (λ passed. passed ≡ begins_with_sequence self.old.ahead) }
         ensures after { OnOk result (self.new ≡ past_sequence self.old) }
     {
-        let Some((sequence, behind)) = split_sequence(self.rest) else {
+        let Some((sequence, after)) = split_sequence(self.rest) else {
             return Ok(false);
         };
-        self.rest = behind;
+        self.rest = after;
         self.add(sequence)?;
         Ok(true)
     }
@@ -186,10 +189,10 @@ impl<'a> Cursor<'a> {
         ensures stays { result ≡ false → self.new ≡ self.old }
         ensures other { result ≡ false → begins_with delimiter (visible_ahead self.old) ≡ false }
     {
-        let Some(behind) = self.rest.strip_prefix(delimiter) else {
+        let Some(after) = self.rest.strip_prefix(delimiter) else {
             return false;
         };
-        self.rest = behind;
+        self.rest = after;
         true
     }
 }

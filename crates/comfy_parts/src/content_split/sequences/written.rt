@@ -12,9 +12,10 @@ use crate::content_split::sequences::cursor::Cursor;
 use crate::content_split::sequences::{RESET, TextPart, TextParts};
 use crate::error::Result;
 
-/// Appends the texts that are written for the lines of the text line at the front of which the
-/// cursor is. Each text begins with the sequences that are open at the start of its line, and ends
-/// with a reset if a sequence is then open.
+/// Appends to `lines` the texts that are written for the lines of one text line. The cursor has to
+/// be at the front of this text line, whose visible text and width are `visible` and `width`. Each
+/// written text begins with the sequences that are open at the start of its line. It ends with
+/// `ESC[0m` if a sequence is then open. The only error is `OutOfMemory`.
 pub(crate) fn push_lines(
     lines: &mut Vec<String>,
     cursor: &mut Cursor<'_>,
@@ -37,7 +38,7 @@ pub(crate) fn push_lines(
     push_wrapped(lines, cursor, visible, info, delimiter)
 }
 
-// Appends the texts of the lines of a text line that is wrapped.
+// Appends the texts that are written for the lines of a text line that is wrapped.
 fn push_wrapped(
     lines: &mut Vec<String>,
     cursor: &mut Cursor<'_>,
@@ -58,9 +59,9 @@ fn push_wrapped(
     Ok(())
 }
 
-/// Returns true only if a text, as the only line of its cell, is written unchanged. Each reset in
-/// such a text follows visible text and closes a sequence, and no sequence is open at its end.
-/// After false it may be unchanged too.
+/// Returns true only if a text, as the only line of its cell, is written unchanged. Each `ESC[0m`
+/// in such a text follows visible text and closes a sequence, and no sequence is open at the end.
+/// If the result is false, the text may still be written unchanged.
 pub(crate) fn needs_no_rewrite(text: &str) -> bool
     ensures { result ≡ true → line_text [] text.now 0 (length (visible_text text.now)) ≡ text.now }
 {

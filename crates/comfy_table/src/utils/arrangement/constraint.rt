@@ -1,4 +1,4 @@
-//! The widths and boundaries of constraints, in terminal columns.
+//! The widths and boundaries that constraints set, in terminal columns.
 
 ghost use Rattle.std.specs.Prelude.{◌≡◌};
 ghost use Rattle.comfy_table.specs.Widths.{lower_boundary, resolved_width, upper_boundary};
@@ -7,8 +7,10 @@ use crate::table::Table;
 use crate::utils::arrangement::helper::count_border_columns;
 use comfy_parts::style::{ColumnConstraint, Width};
 
-/// The lower boundary that a constraint sets for a column's whole width, in terminal columns.
-/// `None` if the constraint has none, or if it is a percentage and the table's width isn't known.
+/// The lower boundary that a constraint sets for the width of a column with its paddings, in
+/// terminal columns. `None` if the constraint has no lower boundary, or if the boundary is a
+/// percentage and the table's width isn't known. `shown_columns` is the number of columns that
+/// aren't hidden; `absolute_value_from_width` uses it for a percentage.
 pub fn min(
     table: &Table,
     constraint: &Option<ColumnConstraint>,
@@ -25,8 +27,10 @@ pub fn min(
     }
 }
 
-/// The upper boundary that a constraint sets for a column's whole width, in terminal columns.
-/// `None` if the constraint has none, or if it is a percentage and the table's width isn't known.
+/// The upper boundary that a constraint sets for the width of a column with its paddings, in
+/// terminal columns. `None` if the constraint has no upper boundary, or if the boundary is a
+/// percentage and the table's width isn't known. `shown_columns` is the number of columns that
+/// aren't hidden; `absolute_value_from_width` uses it for a percentage.
 pub fn max(
     table: &Table,
     constraint: &Option<ColumnConstraint>,
@@ -43,8 +47,9 @@ pub fn max(
     }
 }
 
-/// The terminal columns of a width. A percentage, at most 100, is of the table's width less its
-/// borders, rounded down; it is `None` if the table's width isn't known.
+/// The number of terminal columns of a `Width`. A percentage counts as at most 100. It is taken of
+/// the table's width less the borders of `shown_columns` columns, and rounded down. The result is
+/// `None` for a percentage if the table's width isn't known.
 pub fn absolute_value_from_width(table: &Table, width: &Width, shown_columns: usize) -> Option<u16>
     ensures { result ≡ resolved_width table.now shown_columns width.now }
 {

@@ -10,8 +10,9 @@ use crate::utils::arrangement::fixed::fixed_width;
 use crate::utils::arrangement::helper::absolute_width_with_padding;
 use comfy_parts::Column;
 
-// The content width of a shown column: its fixed width, if it has one. Otherwise the width of its
-// content, or the upper boundary less the paddings if the content alone is wider than the boundary.
+// The content width of a shown column: the width that its constraint fixes, if there is one.
+// Otherwise the width of its content, or the upper boundary less the paddings if the content alone
+// is wider than the boundary.
 pub fn disabled_width(table: &Table, column: &Column, content: u16, shown_columns: usize) -> u16
     ensures { result ≡ unwrap_or (fixed_by_constraint table.now shown_columns content
         (column_padding column.now) column.now.constraint)

@@ -2,9 +2,9 @@
 //!
 //! Each step decides some of the columns that are still undecided, and subtracts their widths from
 //! the room that is left. The average is this room divided by the number of undecided columns. The
-//! first step takes the columns with a fixed width. The next ones take lower boundaries above the
-//! average, then upper boundaries and contents that fit, then columns whose lines need less than
-//! the average. The remaining columns share the remaining room.
+//! first step takes the columns with a fixed width. The next steps decide columns with lower
+//! boundaries above the average, then columns with upper boundaries or contents that fit, then
+//! columns whose lines need less than the average. The remaining columns share the remaining room.
 
 ghost use Rattle.std.specs.Prelude.{◌≡◌, IfOk};
 ghost use Rattle.comfy_table.specs.Arrangement.{is_full_width, room_beside_borders};
@@ -27,7 +27,8 @@ use needs::shown_needs;
 use round_robin::{Candidates, Rule};
 use spread::final_widths;
 
-// The content widths of the shown columns of a table of this width, in list order.
+// The content widths of the shown columns of a table of this width, in the order of the table's
+// columns.
 pub fn dynamic_widths<C: TableSource>(contents: &C, width: u16) -> Result<Vec<u16>>
     ensures { IfOk result (λ widths.
         IsDynamicLayout (room_beside_borders (C.whole contents.now) width)
@@ -54,7 +55,7 @@ pub fn dynamic_widths<C: TableSource>(contents: &C, width: u16) -> Result<Vec<u1
     final_widths(&budget, fills_width(table), *table.columns.allocator())
 }
 
-// Returns true if room that is left over is spread over all columns.
+// Returns true if room that no column needs is spread over all columns.
 fn fills_width(table: &Table) -> bool
     ensures { result ≡ is_full_width table.now.arrangement }
 {

@@ -9,8 +9,8 @@ ghost use Rattle.comfy_table.specs.Widths.{without_padding};
 use crate::table::Table;
 use comfy_parts::{Cell, Column};
 
-/// The content width, in terminal columns, of a column with this whole width: the width less its
-/// paddings, but at least 1.
+/// The width of a column without its paddings, in terminal columns: `width` less the paddings, but
+/// at least 1.
 pub fn absolute_width_with_padding(column: &Column, width: u16) -> u16
     ensures { result ≡ without_padding (column_padding column.now) width }
 {
@@ -31,8 +31,8 @@ pub fn count_visible_columns(columns: &[Column]) -> usize
     visible
 }
 
-/// The number of border characters in a line over `shown_columns` columns, or `usize::MAX` if there
-/// are more.
+/// The number of border characters in a line over `shown_columns` columns, or `usize::MAX` if the
+/// number is greater.
 pub fn count_border_columns(table: &Table, shown_columns: usize) -> usize
     ensures { result ≡ saturated_border_count table.now.style shown_columns }
 {

@@ -13,9 +13,10 @@ use crate::utils::formatting::row_cell::{LinesCell, RowCell, TextCell};
 use comfy_parts::content_split::{ColumnDisplayInfo, measure_text_width, wrapped_lines};
 use comfy_parts::{Cell, Result};
 
-/// The terminal columns of the widest line of a table's column, over header and rows, if each cell
-/// is wrapped at this content width. Greatest heights of rows aren't applied. A width of 0 counts
-/// as 1, and a position without a column gives 0. It takes no memory and always succeeds.
+/// The width of the widest line in the column at a position, in terminal columns, if the header's
+/// cell and all other cells are wrapped at `content_width`. Greatest heights of rows aren't
+/// applied. A width of 0 counts as 1, and a position without a column gives 0. The call takes no
+/// memory and always succeeds.
 pub fn longest_line(table: &Table, position: usize, content_width: u16) -> Result<usize>
     ensures value { IfOk result (λ columns. columns
         ≡ longest_line_at table.now position content_width) }
@@ -30,9 +31,9 @@ pub fn longest_line(table: &Table, position: usize, content_width: u16) -> Resul
     }
 }
 
-/// The width of the widest line of all cells at a position, in terminal columns, if they are
-/// wrapped in a column with this delimiter and content width. Stops at the first cell that passes
-/// the limit, so a result above the limit may be too small.
+/// The width of the widest line in the column at a position, in terminal columns. Each cell is
+/// wrapped with the delimiter and the content width of `info`. The function stops at the first cell
+/// with a line wider than `limit`, so a result above `limit` may be too small.
 pub fn column_longest_line(
     table: &Table,
     position: usize,
@@ -58,7 +59,7 @@ pub fn column_longest_line(
 
 impl Table {
     /// The width of a cell's widest line, in terminal columns, if the cell is wrapped in a column
-    /// of this content width.
+    /// with the delimiter and the content width of `info`.
     pub fn cell_longest_line(&self, cell: &Cell, info: &ColumnDisplayInfo) -> usize
         ensures { result ≡ cell_longest_line self.now info.now (measured_cell self.now cell.now) }
     {
@@ -75,8 +76,9 @@ impl Table {
 
 impl<'a> RowCell<'a> {
     /// The width of the cell's widest line, in terminal columns, if the cell is wrapped in a column
-    /// of this content width. It takes memory only for a text with spaces after it that doesn't
-    /// fit.
+    /// with the delimiter and the content width of `info`. The call takes memory only for a
+    /// `TextCell` with spaces after its text, if the cell is wider than the column. The only error
+    /// is `OutOfMemory`.
     pub fn longest_line(&self, table: &Table, info: &ColumnDisplayInfo) -> Result<usize>
         ensures { IfOk result (λ longest. longest ≡ cell_longest_line table.now info.now
             (measured_cell table.now (cell_of self.now))) }
@@ -89,7 +91,7 @@ impl<'a> RowCell<'a> {
     }
 }
 
-// The width of the widest line of a text's cell, in terminal columns.
+// The width of the widest line of a cell with one text line, in terminal columns.
 fn cell_text_longest_line(
     cell: &TextCell<'_>,
     table: &Table,
@@ -112,7 +114,7 @@ fn cell_text_longest_line(
     Ok(text_longest_line(spaced.as_str(), columns, info, delimiter))
 }
 
-// The width of the widest line of the cell of a text of several lines, in terminal columns.
+// The width of the widest line of a cell with several text lines, in terminal columns.
 fn cell_lines_longest_line(cell: &LinesCell<'_>, table: &Table, info: &ColumnDisplayInfo) -> usize
     ensures { result ≡ cell_longest_line table.now info.now (measured_cell table.now cell.now) }
 {
@@ -125,7 +127,8 @@ fn cell_lines_longest_line(cell: &LinesCell<'_>, table: &Table, info: &ColumnDis
     longest
 }
 
-// The width of the widest wrapped line of a text line that measures `columns`.
+// The width of the widest line of a text line that takes `columns` terminal columns, after it is
+// wrapped.
 fn text_longest_line(text: &str, columns: usize, info: &ColumnDisplayInfo, delimiter: char) -> usize
     requires { columns ≡ measure text.now }
     ensures { result ≡ text_longest_line info.now.content_width delimiter text.now }

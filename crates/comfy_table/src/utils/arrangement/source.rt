@@ -1,4 +1,5 @@
-//! The measures that the widths of columns depend on.
+//! Tables whose rows may be stored outside of the `Table`, and the measurements from which the
+//! widths of columns are found.
 
 ghost use Rattle.std.specs.Prelude.{◌≡◌, ◌≤◌, IfOk};
 ghost use Rattle.comfy_table.specs.Lines.{longest_line};
@@ -10,24 +11,27 @@ use crate::utils::arrangement::longest::column_longest_line;
 use comfy_parts::Result;
 use comfy_parts::content_split::ColumnDisplayInfo;
 
-/// A table whose rows may be kept elsewhere, with the measures that its widths depend on.
+/// A table whose rows may be stored outside of the `Table`, with the measurements from which the
+/// widths of its columns are found.
 pub trait TableSource: Drop {
     /// The table with all of its rows.
     ghost whole: { Self → TableValue };
 
-    /// The table's settings, columns and header. Its own rows are ignored.
+    /// A `Table` that has the settings, the columns and the header. Rows of this `Table` are
+    /// ignored.
     fn table(&self) -> &Table
         ensures { with_other_rows (whole self.now).rows result.now ≡ whole self.now };
 
-    /// The content of the column at a position: the greatest measure of its text lines, in terminal
-    /// columns, over header and rows. Each cell counts at least 1, a greater measure than 65535
-    /// counts 65535, and a column without cells gives 0.
+    /// The content width of the column at a position: the width of the widest text line in its
+    /// cells and header, in terminal columns. Each cell counts at least 1 and at most 65535, and a
+    /// column without cells gives 0. The only error is `OutOfMemory`.
     fn content_width(&self, position: usize) -> Result<u16>
         ensures { IfOk result (λ width. width ≡ column_content_width (whole self.now) position) };
 
-    /// The width of the widest line of all cells at a position, in terminal columns, each wrapped
-    /// in a column with this delimiter and content width. If the true width is above the limit, the
-    /// result is above the limit too, but may be smaller.
+    /// The width of the widest line in the column at a position, in terminal columns. Each cell is
+    /// wrapped with the delimiter and the content width of `info`. If this width is above `limit`,
+    /// the result may be less than this width, but is above `limit` too. The only error is
+    /// `OutOfMemory`.
     fn longest_line(&self, position: usize, info: &ColumnDisplayInfo, limit: usize) -> Result<usize>
         ensures at_most { IfOk result (λ longest. longest
             ≤ longest_line (whole self.now) position info.now.delimiter info.now.content_width) }
@@ -57,7 +61,7 @@ impl TableSource for Table {
     }
 }
 
-/// A reference to a table source is one too.
+/// A reference to a table source is a table source too.
 impl<C: TableSource> TableSource for &C {
     ghost whole = { λ contents. C.whole contents.now };
 

@@ -10,31 +10,32 @@ use crate::utils::formatting::shown_column::ShownColumn;
 use comfy_parts::Result;
 use comfy_parts::style::LineStyle;
 
-/// Returns true if lines begin with a border: if any of the six lines of the style has a left
-/// character.
+/// Returns true if lines begin with a border: if any of the six kinds of lines of the style has a
+/// left character.
 pub fn should_draw_left_border(table: &Table) -> bool
     ensures { result ≡ draws_left_border table.now.style }
 {
     table.style.draws_left_border()
 }
 
-/// Returns true if lines end with a border: if any of the six lines of the style has a right
-/// character.
+/// Returns true if lines end with a border: if any of the six kinds of lines of the style has a
+/// right character.
 pub fn should_draw_right_border(table: &Table) -> bool
     ensures { result ≡ draws_right_border table.now.style }
 {
     table.style.draws_right_border()
 }
 
-/// Returns true if vertical lines are drawn between the columns: if any of the six lines of the
-/// style has a junction.
+/// Returns true if vertical lines are drawn between the columns: if any of the six kinds of lines
+/// of the style has a junction.
 pub fn should_draw_vertical_lines(table: &Table) -> bool
     ensures { result ≡ draws_vertical_lines table.now.style }
 {
     table.style.draws_vertical_lines()
 }
 
-/// A frame line over these columns, if it is drawn: if any of its four parts is set.
+/// The frame line over these columns with the characters of `line`. The result is `None` if the
+/// frame line isn't drawn, because `line` has no character. The only error is `OutOfMemory`.
 pub(crate) fn optional_frame_line(
     table: &Table,
     line: &LineStyle,
@@ -53,7 +54,8 @@ pub(crate) fn optional_frame_line(
     Ok(Some(text))
 }
 
-/// Appends a frame line, even if none of its parts is set.
+/// Appends the frame line over these columns with the characters of `line`, even if `line` has no
+/// character. The only error is `OutOfMemory`.
 pub(crate) fn push_frame_line(
     text: &mut String,
     table: &Table,
@@ -73,7 +75,8 @@ pub(crate) fn push_frame_line(
     push_border(text, table.style.draws_right_border(), line.right)
 }
 
-/// Returns true if a frame line is drawn: if any of its four parts is set.
+/// Returns true if a frame line with these characters is drawn: if any of the four characters is
+/// set.
 pub(crate) fn is_drawn(line: &LineStyle) -> bool
     ensures { result ≡ is_drawn line.now }
 {
@@ -88,7 +91,8 @@ fn needs_junction(vertical: bool, position: usize) -> bool
     vertical && position > 0
 }
 
-/// Appends a character of the style if it is drawn, and a space for a missing one.
+/// Appends a border if `drawn` is true: the character `part` of the style, or a space if `part` is
+/// `None`. The only error is `OutOfMemory`.
 pub(crate) fn push_border(text: &mut String, drawn: bool, part: Option<char>) -> Result<()>
     ensures { OnOk result (string_bytes text.new
         ≡ string_bytes text.old ++ (if drawn then character part else [])) }

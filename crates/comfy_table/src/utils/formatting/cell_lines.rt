@@ -27,15 +27,16 @@ use std::alloc::Global;
 use std::borrow::CowStr;
 use std::marker::Model;
 
-// The capacity of a new list of lines.
+// The capacity of a new list of lines, which is enough for most cells.
 const MOST_LINES: usize = 8;
 
-/// A line of a cell: its terminal columns, and the text that is written.
+/// A line of a cell: its width in terminal columns, and the text that is written for the line.
 #[derive(Drop)]
 pub struct Line<'a> {
     columns: usize,
     text: CowStr<'a>,
-    // the indicator, if the line is cut and `text` is its head, or nothing
+    // written directly after `text`: the indicator if the line is cut, or the spaces after the text
+    // of a `TextCell`, or nothing
     end: &'a str,
 }
 
@@ -53,7 +54,7 @@ impl<'a> Model for Line<'a> {
 }
 
 impl<'a> Line<'a> {
-    /// A line that is a slice of its cell's text.
+    /// A line whose text is a slice of its cell's text, and takes `columns` terminal columns.
     fn of_text(columns: usize, text: &'a str) -> Line<'a>
         ensures { result ≡ record { columns = columns; written = text.now } }
     {
@@ -64,7 +65,9 @@ impl<'a> Line<'a> {
         }
     }
 
-    /// The terminal columns of the line, and the two parts of the text that is written for it.
+    /// The width of the line in terminal columns, and the two texts that are written for the line,
+    /// one directly after the other. The second text may be empty: it is the indicator of a line
+    /// that is cut, or spaces.
     #[inline(always)]
     pub fn parts(&self) -> (usize, &str, &str)
         ensures { record {
@@ -75,7 +78,7 @@ impl<'a> Line<'a> {
         (self.columns, self.text.as_str(), self.end)
     }
 
-    // A copy of the line, with a text of its own.
+    // A copy of the line, with its text in memory of its own.
     fn copied<'b>(&self, alloc: Global) -> Result<Line<'b>>
         ensures { IfOk result (λ line. line ≡ self.now) }
     {
@@ -86,7 +89,7 @@ impl<'a> Line<'a> {
         })
     }
 
-    // The whole text that is written.
+    // The whole text that is written for the line.
     fn written(&self, alloc: Global) -> Result<String>
         ensures { IfOk result (λ text. string_bytes text ≡ self.now.written) }
     {
@@ -103,7 +106,7 @@ pub enum CellLines<'a> {
 }
 
 impl<'a> CellLines<'a> {
-    /// The number of lines.
+    /// The number of lines of the cell.
     pub fn len(&self) -> usize
         ensures { result ≡ length (lines_of self.now) }
     {
@@ -113,7 +116,7 @@ impl<'a> CellLines<'a> {
         }
     }
 
-    /// The line at a position, counted from 0.
+    /// The line at a position, counted from 0; `None` after the last line.
     #[inline(always)]
     pub fn get(&self, position: usize) -> Option<&Line<'a>>
         ensures { option_map (λ line. line.now) result
@@ -126,8 +129,9 @@ impl<'a> CellLines<'a> {
     }
 }
 
-/// The lines of a cell in a row of at most `limit` lines. A text line that is the only one, fits,
-/// and is written as it is needs no list. Other lines take one of the spare lists, if there is one.
+/// The lines of a cell in a row of which at most `limit` lines are drawn, or all lines if `limit`
+/// is `None`. No list is needed if `only_line` returns the cell's line. Otherwise a list of `spare`
+/// is used, or a new list if `spare` is empty. The only error is `OutOfMemory`.
 pub fn row_cell_lines<'a>(
     table: &'a Table,
     limit: Option<usize>,
@@ -161,8 +165,10 @@ fn empty_list<'a>(spare: &mut Vec<Vec<Line<'a>>>) -> Result<Vec<Line<'a>>>
     Ok(list)
 }
 
-/// The columns and the two parts of the text of a cell's only line, if it fits and is written as it
-/// is. Otherwise `None`.
+/// The only line of a cell, if its only text line fits the column and is written unchanged. The
+/// line is returned as its width in terminal columns, and two texts that are written one directly
+/// after the other. The result is `None` for any other cell, and for a text with more than 64
+/// spaces after it.
 #[inline(always)]
 pub fn only_line<'a>(
     table: &Table,
@@ -185,8 +191,8 @@ pub fn only_line<'a>(
     }
 }
 
-// The columns of a text that fits, the text, and the spaces after it. `None` if it doesn't fit, or
-// if there are more spaces than are copied at once.
+// The width of a text that fits, in terminal columns, the text, and the spaces after it. `None` if
+// text and spaces don't fit, or if there are more spaces than are copied at once.
 #[inline(always)]
 fn fitting_text<'a>(
     cell: &TextCell<'a>,
@@ -206,8 +212,8 @@ fn fitting_text<'a>(
     Some((cell.columns(), text, end))
 }
 
-// The columns and the text of a cell's only text line, if it fits and is written as it is.
-// Otherwise `None`.
+// The width of a cell's only text line, in terminal columns, and the text, if it fits and is
+// written as it is. Otherwise `None`.
 #[inline(always)]
 fn fitting_line<'a>(
     table: &Table,
@@ -239,7 +245,7 @@ fn is_custom_styled(table: &Table, cell: &Cell) -> bool
     table.custom_styling && has_escape(cell)
 }
 
-// The lines of a cell in its row, in the given empty list. Most cells don't need this.
+// The lines of a cell in its row, in the empty list `list`. Most cells need no list.
 #[inline(always)]
 fn listed_lines<'a>(
     table: &'a Table,
@@ -265,8 +271,8 @@ fn listed_lines<'a>(
     Ok(lines)
 }
 
-// The lines of a cell in a column as they are measured, in the given empty list. Text lines that
-// fit are kept, and others are wrapped.
+// The lines of a cell in a column as they are measured, in the empty list `list`. Text lines that
+// fit stay as they are, and others are wrapped.
 fn measured_lines<'a>(
     table: &Table,
     cell: CellSource<'a>,
@@ -286,7 +292,7 @@ fn measured_lines<'a>(
     }
 }
 
-// The lines of a text in a column, in the given empty list.
+// The lines of a cell with one text line, in the empty list `lines`.
 fn text_lines<'a>(
     table: &Table,
     cell: &TextCell<'a>,
@@ -309,7 +315,7 @@ fn text_lines<'a>(
     Ok(lines)
 }
 
-// Appends the lines of a text with spaces after it, each with a text of its own.
+// Appends the lines of a text with spaces after it. Each line has its text in memory of its own.
 #[inline(never)]
 fn push_spaced<'a>(
     lines: &mut Vec<Line<'a>>,
@@ -331,7 +337,7 @@ fn push_spaced<'a>(
     Ok(())
 }
 
-// The lines of a text of several lines in a column, in the given empty list.
+// The lines of a cell with several text lines, in the empty list `lines`.
 fn several_lines<'a>(
     table: &Table,
     cell: &LinesCell<'a>,
@@ -351,7 +357,7 @@ fn several_lines<'a>(
     Ok(lines)
 }
 
-// The lines of a `Cell` in a column, in the given empty list.
+// The lines of a `Cell` in a column, in the empty list `lines`.
 fn cell_lines<'a>(
     table: &Table,
     cell: &'a Cell,
@@ -372,7 +378,8 @@ fn cell_lines<'a>(
     Ok(lines)
 }
 
-// Appends the lines of a text line that takes `columns` terminal columns.
+// Appends the lines of a text line that takes `columns` terminal columns: the text line itself if
+// it fits, or else its wrapped lines.
 #[inline(always)]
 fn push_lines<'a>(
     lines: &mut Vec<Line<'a>>,
@@ -429,8 +436,8 @@ fn uncut_lines<'a>(
 {
     match cell {
         CellSource::Line(cell) => {
-            // Proof only: its clause says that there is no ESC, so each line is written as it is
-            // measured.
+            // Proof only: the clause of `line` shows that there is no ESC, so each line is written
+            // as it is measured.
             let _ = cell.line();
             Ok(measured)
         }
@@ -465,7 +472,7 @@ fn written_cell_lines<'a>(
     Ok(with_texts(measured, texts))
 }
 
-// The lines, with these texts in place of the texts of the first ones.
+// The lines, with these texts in place of the texts of the first lines.
 fn with_texts<'a>(mut lines: Vec<Line<'a>>, texts: Vec<String>) -> Vec<Line<'a>>
     ensures { result.items ≡ with_texts lines.entry.items (map string_bytes texts.items) }
 {
@@ -480,8 +487,9 @@ fn with_texts<'a>(mut lines: Vec<Line<'a>>, texts: Vec<String>) -> Vec<Line<'a>>
     lines
 }
 
-// The line that is cut by the row's height, made from its measured text. Only with custom styling
-// it needs a text of its own: a reset ends the sequences that are left open.
+// The last line of a cell that is cut by the row's greatest height, made from its measured text.
+// Only with `custom_styling` does it need memory of its own: a reset ends the sequences that are
+// left open.
 fn cut_line<'a>(table: &'a Table, measured: &Line<'a>, info: &ColumnDisplayInfo) -> Result<Line<'a>>
     ensures { IfOk result (λ line. line
         ≡ drawn_line (cut_line table.now.custom_styling info.now.content_width table.now.indicator
@@ -500,7 +508,8 @@ fn cut_line<'a>(table: &'a Table, measured: &Line<'a>, info: &ColumnDisplayInfo)
     }
 }
 
-// The line that is cut by the row's height, with a text of its own.
+// The last line of a cell that is cut by the row's greatest height, with its text in memory of its
+// own.
 fn closed_line<'a>(table: &Table, measured: &Line, info: &ColumnDisplayInfo) -> Result<Line<'a>>
     ensures { IfOk result (λ line. line
         ≡ drawn_line (cut_line table.now.custom_styling info.now.content_width table.now.indicator
@@ -521,7 +530,8 @@ fn closed_line<'a>(table: &Table, measured: &Line, info: &ColumnDisplayInfo) -> 
     })
 }
 
-// The head of a line that leaves room for the indicator, and the indicator.
+// The head of a line, which leaves room for the indicator in the column, and the indicator. The
+// indicator is empty if it is wider than the column.
 fn cut_text<'a>(table: &'a Table, line: &'a str, info: &ColumnDisplayInfo) -> (&'a str, &'a str)
     ensures { result.0.now ++ result.1.now
         ≡ cut_text info.now.content_width table.now.indicator line.now }
@@ -533,8 +543,8 @@ fn cut_text<'a>(table: &'a Table, line: &'a str, info: &ColumnDisplayInfo) -> (&
     (head, indicator)
 }
 
-// The terminal columns of two texts, one after the other. Only if the second may join the end of
-// the first, both are measured as one text.
+// The width of two texts, one directly after the other, in terminal columns. They are measured as
+// one text only if the second may join the end of the first.
 fn joined_width(alloc: Global, text: &str, end: &str) -> Result<usize>
     ensures { IfOk result (λ columns. columns ≡ measure (text.now ++ end.now)) }
 {

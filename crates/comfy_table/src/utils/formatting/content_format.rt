@@ -13,8 +13,10 @@ use comfy_parts::content_split::ColumnDisplayInfo;
 use comfy_parts::{Cell, Result, Row};
 use std::alloc::Global;
 
-/// The lines of a row, from the top, each as its pieces from the left. The i-th info is for the
-/// i-th cell, and cells after the last info are left out. The only error is `OutOfMemory`.
+/// The lines of a row, from the top. Each line is the list of its pieces, from the left: for each
+/// shown column a text with its paddings, as wide as the column, without borders. The i-th item of
+/// `display_infos` is for the i-th cell, and cells after its last item are left out. The only error
+/// is `OutOfMemory`.
 ///
 /// ```text
 /// | one   | two | => [[" one   ", " two "],
@@ -41,8 +43,9 @@ pub fn format_row(
     Ok(lines)
 }
 
-/// The lines of the header, if there is one, and then the lines of each row: for each of them its
-/// lines, each as its pieces. The only error is `OutOfMemory`.
+/// The lines of the header, if there is one, and then the lines of each row. Header and rows have
+/// one item each: the list of lines that `format_row` returns, each line as its pieces. The only
+/// error is `OutOfMemory`.
 pub fn format_content(
     table: &Table,
     display_infos: &[ColumnDisplayInfo],

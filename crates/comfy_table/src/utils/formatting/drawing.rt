@@ -23,24 +23,28 @@ use comfy_parts::content_split::ColumnDisplayInfo;
 use comfy_parts::{Result, Row};
 use std::marker::Model;
 
-/// Says whether some rows include the first and the last row of their table.
+/// The ends of a part of a table: whether the part includes the first and the last row of the
+/// table. A part is some rows of the table, one after another.
 #[derive(Clone, Copy)]
 pub struct PartEnds {
-    /// True if they include the first row. The top border and the header are then above it.
+    /// True if the rows of the part include the first row of the table. The top border and the
+    /// header are then drawn above the first row.
     pub is_first: bool,
-    /// True if they include the last row. The bottom border is then below it.
+    /// True if the rows of the part include the last row of the table. The bottom border is then
+    /// drawn below the last row.
     pub is_last: bool,
 }
 
 impl PartEnds {
-    /// All rows of a table.
+    /// The ends of the part that has all rows of the table. This part is drawn with the top border,
+    /// the header and the bottom border.
     pub const WHOLE: PartEnds = PartEnds {
         is_first: true,
         is_last: true,
     };
 }
 
-/// Draws a table line by line.
+/// A writer that draws the rows of a table and the lines around them, line by line.
 #[derive(Drop)]
 pub struct Writer<'a> {
     table: &'a Table,
@@ -67,7 +71,8 @@ impl<'a> Model for Writer<'a> {
 }
 
 impl<'a> Writer<'a> {
-    /// A writer of a table with this frame, whose columns have these widths and settings.
+    /// A writer of a table with this frame, whose columns have these widths and settings. The only
+    /// error is `OutOfMemory`.
     pub fn new(
         table: &'a Table,
         infos: &'a [ColumnDisplayInfo],
@@ -89,15 +94,16 @@ impl<'a> Writer<'a> {
         })
     }
 
-    /// The width and settings of each column, in list order, including hidden columns.
+    /// The width and settings of each column, hidden ones included, in the order of the table's
+    /// columns.
     pub fn infos(&self) -> &[ColumnDisplayInfo]
         ensures { result.now ≡ self.now.infos }
     {
         self.infos
     }
 
-    /// Appends the lines of these rows, and the lines around them, to an output. After
-    /// `OutOfMemory` the output still begins with its old content.
+    /// Appends the lines of these rows, and the frame lines and the header that `extent` requires,
+    /// to an output. After `OutOfMemory` the output still begins with its old content.
     pub fn draw<'r, O: Output>(
         &mut self,
         rows: &'r [Row],
@@ -116,8 +122,9 @@ impl<'a> Writer<'a> {
         self.write_below(extent.is_last, output)
     }
 
-    /// Appends at most `limit` lines of a row of these cells, and the lines around it, to an
-    /// output. After `OutOfMemory` the output still begins with its old content.
+    /// Appends at most `limit` lines of a row that consists of these cells, or all its lines with
+    /// `None`. The frame lines and the header that `extent` requires are appended too. After
+    /// `OutOfMemory` the output still begins with its old content.
     #[inline(always)]
     pub fn draw_cells<'r, O: Output>(
         &mut self,
@@ -138,8 +145,9 @@ impl<'a> Writer<'a> {
         self.write_below(extent.is_last, output)
     }
 
-    /// The number of lines of a row of these cells, if at most `limit` are drawn. Without shown
-    /// columns it has none.
+    /// The number of lines of a row that consists of these cells, if at most `limit` lines of it
+    /// are drawn, or all lines with `None`. Without shown columns the row has no lines. The only
+    /// error is `OutOfMemory`.
     pub fn height_of_cells(&self, cells: &[RowCell<'_>], limit: Option<usize>) -> Result<usize>
         ensures { IfOk result (λ height. height ≡ row_height self.now.table self.now.infos
             (row_with (map cell_of cells.now) limit)) }

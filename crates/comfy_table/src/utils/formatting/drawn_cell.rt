@@ -1,4 +1,4 @@
-//! The cells of a row as the shown columns draw them.
+//! The cells of a row in the shown columns, with the lines that are drawn of them.
 
 ghost use Rattle.std.specs.Prelude.{◌≡◌, ◌∷◌, [], IfOk, IfSome, length, map};
 ghost use Rattle.comfy_table.specs.DrawnCells.{drawn_cell, greatest_height, piece_at, styles_of};
@@ -19,7 +19,7 @@ use std::marker::Model;
 // so that a tall cell's memory is returned before the next row.
 const KEPT_LINES: usize = 256;
 
-/// A cell of a row as a shown column draws it.
+/// A cell of a row in a shown column, with the lines that are drawn of the cell.
 #[derive(Drop)]
 pub struct DrawnCell<'a, 'r> {
     styles: Styles,
@@ -41,7 +41,7 @@ impl<'a, 'r> Model for DrawnCell<'a, 'r> {
 }
 
 impl<'a, 'r> DrawnCell<'a, 'r> {
-    /// The number of lines. A missing cell has one.
+    /// The number of lines of the cell in its column. A missing cell has one blank line.
     pub fn height(&self) -> usize
         ensures { result ≡ length self.now.pieces }
     {
@@ -51,7 +51,8 @@ impl<'a, 'r> DrawnCell<'a, 'r> {
         }
     }
 
-    /// The piece of the cell in a line of its row. Lines are counted from 0.
+    /// The piece that the cell has in a line of its row: its text with paddings, or only spaces
+    /// after the cell's last line. Lines are counted from 0.
     #[inline(always)]
     pub fn piece_at(&self, line: usize) -> Piece<'_>
         ensures { result ≡ piece_at line self.now }
@@ -67,8 +68,8 @@ impl<'a, 'r> DrawnCell<'a, 'r> {
     }
 }
 
-/// Takes a cell that has been drawn, and keeps the list of its lines for later cells, unless the
-/// list is long.
+/// Takes a cell that has been drawn, and moves the list of its lines to `spare` for later cells. A
+/// list with room for more than `KEPT_LINES` lines is dropped. The only error is `OutOfMemory`.
 #[inline(always)]
 pub fn take_list<'r>(cell: DrawnCell<'_, 'r>, spare: &mut Vec<Vec<Line<'r>>>) -> Result<()> {
     let Some((_, lines)) = cell.cell else {
@@ -85,7 +86,8 @@ pub fn take_list<'r>(cell: DrawnCell<'_, 'r>, spare: &mut Vec<Vec<Line<'r>>>) ->
     Ok(())
 }
 
-/// The cells of a row in these columns, each at its column's position.
+/// The cells of a row in these columns, in the order of the columns. If the row has no cell in a
+/// column, the item for this column is a blank cell of one line. The only error is `OutOfMemory`.
 pub fn drawn_cells<'a, 'r>(
     row: &'r Row,
     columns: &[ShownColumn<'a>],
@@ -105,7 +107,7 @@ pub fn drawn_cells<'a, 'r>(
     Ok(cells)
 }
 
-/// The height of a row in lines: the greatest height of its shown cells.
+/// The height of a row in lines: the greatest height of these cells; 0 without cells.
 pub fn greatest_height(cells: &[DrawnCell]) -> usize
     ensures { result ≡ greatest_height cells.now }
 {
@@ -116,7 +118,8 @@ pub fn greatest_height(cells: &[DrawnCell]) -> usize
     height
 }
 
-/// The height of a row in these columns, in lines: the greatest height of its cells.
+/// The height of a row in lines: the greatest height of its cells in these columns; 0 without
+/// columns. The only error is `OutOfMemory`.
 pub fn row_height(row: RowSource<'_>, columns: &[ShownColumn<'_>], table: &Table) -> Result<usize>
     ensures { IfOk result (λ height. height
         ≡ greatest_height (map (drawn_cell table.now (row_in row.entry)) columns.now)) }
@@ -136,9 +139,9 @@ pub fn row_height(row: RowSource<'_>, columns: &[ShownColumn<'_>], table: &Table
     Ok(height)
 }
 
-/// The piece of a cell in its column, if the cell has one line that fits and is written as it is,
-/// or if there is no cell. Otherwise `None`. Most cells are drawn this way, without a list and
-/// without a `DrawnCell`.
+/// The only piece of a row's cell in a column, if `only_line` returns the cell's only line. If the
+/// row has no cell in the column, the only piece is blank. For any other cell the result is `None`.
+/// Most cells are drawn this way, without a list and without a `DrawnCell`.
 #[inline(always)]
 pub fn only_piece<'r>(
     row: RowSource<'r>,
@@ -160,7 +163,8 @@ pub fn only_piece<'r>(
     Some(Piece::new(styles, cell, info, columns, text, end))
 }
 
-/// The cell of a row in a shown column. Its lines may take a spare list.
+/// The cell of a row in a shown column, with the lines that are drawn of the cell. If these lines
+/// need a list, a list of `spare` is used, if there is one. The only error is `OutOfMemory`.
 pub fn drawn_cell<'a, 'r>(
     row: RowSource<'r>,
     column: &ShownColumn<'a>,

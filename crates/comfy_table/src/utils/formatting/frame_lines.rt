@@ -1,4 +1,4 @@
-//! The lines that all parts of a table have in common.
+//! The frame lines and borders that all parts of a table have in common.
 
 ghost use Rattle.std.specs.Prelude.{◌≡◌, IfOk};
 ghost use Rattle.comfy_table.specs.Drawing.{outer_widths};
@@ -12,8 +12,9 @@ use comfy_parts::Result;
 use comfy_parts::content_split::ColumnDisplayInfo;
 use std::marker::Model;
 
-/// The top border, the row separator and the bottom border, if they are drawn, and the gaps in the
-/// lines of rows. They are made once for all parts of a table.
+/// The top border, the row separator and the bottom border, and the gaps (`Gap`) in the lines of
+/// rows. A frame line that isn't drawn is `None`. The frame lines and gaps are made once for all
+/// parts of a table.
 #[derive(Drop)]
 pub struct FrameLines {
     pub top: Option<String>,
@@ -37,7 +38,8 @@ impl Model for FrameLines {
 }
 
 impl FrameLines {
-    /// The frame lines of a table whose columns have these widths and settings.
+    /// The frame lines and gaps of a table whose columns have these widths and settings. The only
+    /// error is `OutOfMemory`.
     pub fn new(table: &Table, infos: &[ColumnDisplayInfo]) -> Result<FrameLines>
         ensures { IfOk result (λ frame. frame
             ≡ frame_of table.now.style (outer_widths infos.now)) }

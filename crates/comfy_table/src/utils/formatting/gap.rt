@@ -36,7 +36,8 @@ impl Model for Gap {
 }
 
 impl Gap {
-    /// The gap with a character of the style. If `drawn` is false it has no border.
+    /// A gap with the character `part` of the style as its border, or with a space if `part` is
+    /// `None`. If `drawn` is false, the gap has no border. The only error is `OutOfMemory`.
     pub fn new(alloc: Global, drawn: bool, part: Option<char>) -> Result<Gap>
         ensures { IfOk result (λ gap. gap ≡ drawn_character drawn part) }
     {
@@ -54,7 +55,8 @@ impl Gap {
         })
     }
 
-    /// Appends `before` spaces, the border, and `after` spaces.
+    /// Appends `before` spaces, the border of the gap, and `after` spaces. The only error is
+    /// `OutOfMemory`; `text` may then have a part of these.
     #[inline(always)]
     pub fn push(&self, text: &mut String, before: usize, after: usize) -> Result<()>
         ensures { OnOk result (string_bytes text.new
@@ -82,7 +84,8 @@ impl Gap {
     }
 }
 
-/// Appends `count` spaces.
+/// Appends `count` spaces to a text. The only error is `OutOfMemory`; fewer spaces may then be
+/// appended.
 pub fn push_spaces(text: &mut String, count: usize) -> Result<()>
     ensures { OnOk result (string_bytes text.new ≡ string_bytes text.old ++ spaces count) }
 {

@@ -28,7 +28,7 @@ pub trait Output {
         ensures err { OnErr result (BeginsWith (kept self.new) (kept self.old)) };
 }
 
-/// Each line becomes a text of its own.
+/// Each line becomes an item of the list.
 impl Output for Vec<String> {
     ghost use Rattle.std.specs.Prelude.{◌∷◌, [], map, string_bytes};
     ghost use Rattle.comfy_parts.specs.Text.{Text};
@@ -47,7 +47,7 @@ impl Output for Vec<String> {
     }
 }
 
-/// Each line is followed by a line feed.
+/// Each line is appended to the text, and followed by a line feed.
 impl Output for String {
     ghost use Rattle.std.specs.Prelude.{◌++◌, ◌∷◌, [], ℕ, string_bytes};
 
@@ -63,7 +63,7 @@ impl Output for String {
     }
 }
 
-/// A text of lines without their trailing white space, each followed by a line feed.
+/// A text that consists of lines without their trailing white space, each followed by a line feed.
 #[derive(Drop)]
 pub struct TrimmedText {
     text: String,
@@ -79,7 +79,7 @@ impl Model for TrimmedText {
 }
 
 impl TrimmedText {
-    /// An empty text. Takes no memory.
+    /// An empty text. The call takes no memory.
     pub fn new(alloc: Global) -> TrimmedText
         ensures { result ≡ [] }
     {
@@ -88,7 +88,7 @@ impl TrimmedText {
         }
     }
 
-    /// The text itself.
+    /// The text as a `String`. The text isn't copied.
     pub fn into_text(self) -> String
         ensures { string_bytes result ≡ self }
     {

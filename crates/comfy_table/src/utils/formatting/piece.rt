@@ -23,15 +23,18 @@ use std::marker::Model;
 /// The places where a table writes the colours and attributes of its cells.
 #[derive(Clone, Copy)]
 pub enum Styles {
+    /// No colours and attributes are written.
     Nowhere,
-    /// Around the text of each piece.
+    /// Colours and attributes are written around the text of each piece, without paddings and
+    /// spaces.
     RoundTexts,
-    /// Around whole pieces, with their paddings.
+    /// Colours and attributes are written around each whole piece, with its paddings and spaces.
     RoundPieces,
 }
 
 impl Styles {
-    /// The places where this table writes them.
+    /// The places where a table writes the colours and attributes of its cells. The value is
+    /// `Nowhere` if `Table::should_style` returns false.
     pub fn of(table: &Table) -> Styles
         ensures { result ≡ styles_of table.now }
     {
@@ -46,8 +49,8 @@ impl Styles {
     }
 }
 
-/// A line of a cell in its column: a text between spaces. If styles are written, they surround the
-/// whole piece or only the text.
+/// A line of a cell in its column: a text between spaces. If colours and attributes are written,
+/// they surround the whole piece or only the text.
 #[derive(Drop)]
 pub struct Piece<'a> {
     left: usize,
@@ -73,8 +76,8 @@ impl<'a> Model for Piece<'a> {
 }
 
 impl<'a> Piece<'a> {
-    /// The piece of a line. The line is written as two texts and measures `columns`, by which it is
-    /// aligned.
+    /// The piece of a line of a cell. The line is written as the texts `text` and `end`, one
+    /// directly after the other. It is aligned as a line that takes `columns` terminal columns.
     #[inline(always)]
     pub fn new(
         styles: Styles,
@@ -113,7 +116,8 @@ impl<'a> Piece<'a> {
         }
     }
 
-    /// A text with `left` spaces before it and `right` spaces after it, without styles.
+    /// A piece of a text with `left` spaces before it and `right` spaces after it, without colours
+    /// and attributes.
     pub fn bare(left: usize, text: &'a str, right: usize) -> Piece<'a>
         ensures { result ≡ spaced (left, right) text.now }
     {
@@ -126,15 +130,17 @@ impl<'a> Piece<'a> {
         }
     }
 
-    /// The piece of a column that has no line here: spaces.
+    /// A piece of spaces alone, as wide as the column, for a line of a row in which the column has
+    /// no text.
     pub fn blank(info: &ColumnDisplayInfo) -> Piece<'a>
         ensures { result ≡ blank_piece info.now }
     {
         Piece::bare(info.width(), "", 0)
     }
 
-    /// Appends a gap with `free` spaces before it, and then the piece without its trailing spaces.
-    /// Returns the number of these spaces, to be the `free` of the next gap.
+    /// Appends `free` spaces, the border of `gap`, and the piece without its trailing spaces to
+    /// `line`. Returns the number of these trailing spaces, which is the `free` of the next call.
+    /// The only error is `OutOfMemory`; `line` may then have a part of these texts.
     #[inline(always)]
     pub fn push(&self, line: &mut String, gap: &Gap, free: usize) -> Result<usize>
         ensures { IfOk result (λ right. string_bytes line.new ++ spaces right
@@ -176,8 +182,9 @@ fn push_styled(
     push_style_end(line, style)
 }
 
-/// The spaces before and after a line of this measure: the paddings, and the rest of the column's
-/// width. The cell's alignment `own` is used, or else the column's.
+/// The number of spaces before and after a line of `width` terminal columns: the paddings, and the
+/// terminal columns that the line leaves free. The alignment is that of the cell (`own`), or else
+/// that of the column, or else left.
 pub fn spaces_around(
     own: Option<CellAlignment>,
     info: &ColumnDisplayInfo,

@@ -19,8 +19,8 @@ use comfy_parts::{Cell, Result, Row};
 use std::alloc::Global;
 use std::marker::Model;
 
-/// A borrowed text of one line that is drawn as a cell, with spaces after it. It has no escape
-/// sequence, and the cell takes no memory.
+/// A borrowed text of one line, with a number of spaces after it, that is drawn as a cell. The text
+/// has no escape sequence, and the cell takes no memory.
 #[derive(Drop)]
 pub struct TextCell<'a> {
     text: &'a str,
@@ -52,7 +52,10 @@ impl<'a> Model for TextCell<'a> {
 }
 
 impl<'a> TextCell<'a> {
-    /// The cell of a text of printable ASCII and `after` spaces; `None` for any other text.
+    /// The cell of a text of printable ASCII with `after` spaces after the text. The result is
+    /// `None` if the text has another character, or if the length of text and spaces is above
+    /// `usize::MAX`. Without `alignment` the alignment of the column applies. Without `style` no
+    /// colour and no attribute is set.
     #[inline(always)]
     pub fn of_printable(
         text: &'a str,
@@ -77,7 +80,9 @@ impl<'a> TextCell<'a> {
         })
     }
 
-    /// The cell of a text; `None` for a text of several lines, or with ESC.
+    /// The cell of a text without spaces after it. The result is `None` if the text has a line feed
+    /// or ESC. Without `alignment` the alignment of the column applies. Without `style` no colour
+    /// and no attribute is set.
     pub fn of_line(
         text: &'a str,
         alignment: Option<CellAlignment>,
@@ -109,7 +114,7 @@ impl<'a> TextCell<'a> {
         (self.text, self.after)
     }
 
-    /// The text with the spaces after it.
+    /// The text and the spaces after it, as one new text. The only error is `OutOfMemory`.
     pub fn spaced(&self, alloc: Global) -> Result<String>
         ensures { IfOk result (λ text. self.now.text_lines ≡ string_bytes text ∷ []) }
     {
@@ -118,7 +123,7 @@ impl<'a> TextCell<'a> {
         Ok(spaced)
     }
 
-    /// The terminal columns of the text and the spaces after it.
+    /// The width of the text and the spaces after it, in terminal columns.
     #[inline(always)]
     pub fn columns(&self) -> usize
         ensures columns { map measure self.now.text_lines ≡ result ∷ [] }
@@ -146,8 +151,8 @@ impl<'a> TextCell<'a> {
     }
 }
 
-/// A borrowed text of several lines that is drawn as a cell. It has no escape sequence, and the
-/// cell takes no memory.
+/// A borrowed text of several lines that is drawn as a cell. The text has no escape sequence, and
+/// the cell takes no memory.
 #[derive(Drop)]
 pub struct LinesCell<'a> {
     text: &'a str,
@@ -175,8 +180,9 @@ impl<'a> Model for LinesCell<'a> {
 }
 
 impl<'a> LinesCell<'a> {
-    /// The cell of a text, which is split into text lines at its line feeds; `None` for a text with
-    /// ESC.
+    /// The cell of a text, whose text lines are separated by its line feeds. The result is `None`
+    /// if the text has ESC. Without `alignment` the alignment of the column applies. Without
+    /// `style` no colour and no attribute is set.
     pub fn of_lines(
         text: &'a str,
         alignment: Option<CellAlignment>,
@@ -196,7 +202,7 @@ impl<'a> LinesCell<'a> {
         })
     }
 
-    /// The text. Its lines are the text lines of the cell.
+    /// The text. Its line feeds separate the text lines of the cell.
     #[inline(always)]
     pub fn text(&self) -> &'a str
         ensures lines { self.now.text_lines ≡ (plain_cell result.now).text_lines }
@@ -248,17 +254,17 @@ fn widest_line(text: &str) -> usize
 /// A cell of a row that is drawn without a `Row` (`RowWriter::push_cells`).
 #[derive(Drop)]
 pub enum RowCell<'a> {
-    /// A borrowed text of one line.
+    /// A borrowed text of one line, without escape sequences.
     Lent(TextCell<'a>),
-    /// A borrowed text of several lines.
+    /// A borrowed text of several lines, without escape sequences.
     Several(LinesCell<'a>),
-    /// A `Cell`, for a text that has to be made first, or that has escape sequences.
+    /// A `Cell`, for a text that has escape sequences, or that the program has to build first.
     Made(Box<Cell>),
 }
 
 impl<'a> RowCell<'a> {
-    /// The greatest measure of the cell's text lines in a table, in terminal columns, at least 1
-    /// and at most 65535.
+    /// The width of the cell's widest text line, in terminal columns, at least 1 and at most 65535.
+    /// If the table has `custom_styling`, SGR sequences aren't counted.
     #[inline(always)]
     pub fn content_width(&self, table: &Table) -> u16
         ensures { result ≡ cell_content_width (measured_cell table.now (cell_of self.now)) }
@@ -271,7 +277,7 @@ impl<'a> RowCell<'a> {
     }
 }
 
-/// A cell that is drawn, from any source.
+/// A reference to a cell that is drawn: a `TextCell`, a `LinesCell` or a `Cell`.
 #[derive(Clone, Copy)]
 pub(crate) enum CellSource<'r> {
     Line(&'r TextCell<'r>),

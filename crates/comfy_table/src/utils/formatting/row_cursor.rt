@@ -16,12 +16,12 @@ use comfy_parts::Result;
 use std::alloc::Global;
 use std::marker::Model;
 
-/// The row that is being drawn. Its first line is drawn while its cells are found, and only cells
-/// that may have further lines are kept: most rows have none. One cursor draws many rows, and
-/// reuses its memory.
+/// The row that is being drawn. Its first line is drawn while its cells are measured. Then only the
+/// cells that may have further lines are stored: most rows have no such cell. One cursor draws many
+/// rows, and reuses its memory.
 #[derive(Drop)]
 pub struct RowCursor<'a, 'r> {
-    // the cells starting at the first one that may have more than one line
+    // the cells from the first cell on that may have more than one line
     further: Vec<DrawnCell<'a, 'r>>,
     // the lists that held the lines of earlier rows
     spare: Vec<Vec<Line<'r>>>,
@@ -37,7 +37,7 @@ impl<'a, 'r> Model for RowCursor<'a, 'r> {
 }
 
 impl<'a, 'r> RowCursor<'a, 'r> {
-    /// A cursor without a row. Takes no memory.
+    /// A cursor that isn't at a row yet. The call takes no memory.
     pub fn new(alloc: Global) -> RowCursor<'a, 'r>
         ensures { result ≡ [] }
     {
@@ -47,8 +47,9 @@ impl<'a, 'r> RowCursor<'a, 'r> {
         }
     }
 
-    /// Moves to a row, appends its first line, and returns its height in lines. Without columns the
-    /// height is 0 and the row has no line.
+    /// Moves to a row, appends the row's first line to `text`, and returns the row's height in
+    /// lines. Without columns the height is 0, and the appended text isn't a line of the row. The
+    /// only error is `OutOfMemory`; `text` may then have a part of the line.
     #[inline(always)]
     pub fn push_first_line(
         &mut self,
@@ -92,7 +93,7 @@ impl<'a, 'r> RowCursor<'a, 'r> {
         Ok(height)
     }
 
-    // Removes the cells of the row before, and keeps their lists.
+    // Removes the cells of the previous row, and moves their lists to `spare`.
     fn clear(&mut self) -> Result<()>
         ensures { OnOk result (self.new ≡ []) }
     {
@@ -102,7 +103,9 @@ impl<'a, 'r> RowCursor<'a, 'r> {
         Ok(())
     }
 
-    /// Appends a line after the first one, in the same columns. Lines are counted from 0.
+    /// Appends one of the lines after the row's first line to `text`. `columns` are those with
+    /// which `push_first_line` was called. Lines are counted from 0. The only error is
+    /// `OutOfMemory`; `text` may then have a part of the line.
     #[inline(never)]
     pub fn push_further_line(
         &self,

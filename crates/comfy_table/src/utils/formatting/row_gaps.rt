@@ -1,4 +1,4 @@
-//! The gaps between the pieces of a row's lines.
+//! The gaps (`Gap`) between the pieces of a row's lines.
 
 ghost use Rattle.std.specs.Prelude.{◌≡◌, ◌++◌, IfOk, OnOk, string_bytes};
 ghost use Rattle.comfy_parts.specs.Text.{spaces};
@@ -10,8 +10,8 @@ use comfy_parts::Result;
 use comfy_parts::style::ContentLineStyle;
 use std::marker::Model;
 
-/// The gaps in the lines of rows: before the first piece, between two pieces, and after the last
-/// one.
+/// The gaps in the lines of rows. A gap (`Gap`) is a border with the spaces beside it: before the
+/// first text of a line, between each two texts, or after the last text.
 #[derive(Drop)]
 pub struct RowGaps {
     left: Gap,
@@ -28,7 +28,8 @@ impl Model for RowGaps {
 }
 
 impl RowGaps {
-    /// The gaps of a content line of the table's style.
+    /// The gaps of the header's lines, or of the lines of rows: `line` has their characters. The
+    /// only error is `OutOfMemory`.
     pub fn new(table: &Table, line: &ContentLineStyle) -> Result<RowGaps>
         ensures { IfOk result (λ gaps. gaps ≡ row_gaps table.now.style line.now) }
     {
@@ -41,21 +42,22 @@ impl RowGaps {
         })
     }
 
-    /// The gap before the first piece.
+    /// The gap before the first piece of a line, with the left border.
     pub fn left(&self) -> &Gap
         ensures { result.now ≡ self.now.left }
     {
         &self.left
     }
 
-    /// The gap between two pieces.
+    /// The gap between two pieces of a line, with the vertical line.
     pub fn junction(&self) -> &Gap
         ensures { result.now ≡ self.now.junction }
     {
         &self.junction
     }
 
-    /// Appends the end of a line: `free` spaces and the last gap.
+    /// Appends the end of a line: `free` spaces and the right border. The only error is
+    /// `OutOfMemory`.
     #[inline(always)]
     pub fn push_end(&self, text: &mut String, free: usize) -> Result<()>
         ensures { OnOk result (string_bytes text.new

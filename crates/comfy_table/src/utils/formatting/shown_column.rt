@@ -11,7 +11,9 @@ use std::marker::Model;
 /// A column that isn't hidden, and its position in the table.
 #[derive(Drop)]
 pub struct ShownColumn<'a> {
+    /// The position in the table's list of columns, counted from 0.
     pub position: usize,
+    /// The width and settings of the column.
     pub info: &'a ColumnDisplayInfo,
 }
 
@@ -24,7 +26,8 @@ impl<'a> Model for ShownColumn<'a> {
     ghost view = { λ c. (c.position, c.info.now) };
 }
 
-/// The shown columns of these infos, in order.
+/// The columns of `infos` that aren't hidden, in the order of `infos`, each with its position in
+/// `infos`. The only error is `OutOfMemory`.
 pub fn shown_infos<'a>(
     alloc: Global,
     infos: &'a [ColumnDisplayInfo],

@@ -43,7 +43,7 @@ const ALL_ATTRIBUTES: [Attribute; 28] = [
 ];
 
 /// Appends the sequences before a styled text: background, foreground, attributes. Appends nothing
-/// if the style has none of them.
+/// if the style has neither a colour nor an attribute. The only error is `OutOfMemory`.
 pub(crate) fn push_style_begin(line: &mut String, style: &TextStyle<'_>) -> Result<()>
     ensures { OnOk result (string_bytes line.new
         ≡ string_bytes line.old ++ style_begin (styling style.now)) }
@@ -53,7 +53,8 @@ pub(crate) fn push_style_begin(line: &mut String, style: &TextStyle<'_>) -> Resu
     push_attributes(line, style.attributes)
 }
 
-/// Appends the sequences after a styled text.
+/// Appends the sequences after a styled text, which end its style. Appends nothing if the style has
+/// neither a colour nor an attribute. The only error is `OutOfMemory`.
 pub(crate) fn push_style_end(line: &mut String, style: &TextStyle<'_>) -> Result<()>
     ensures { OnOk result (string_bytes line.new
         ≡ string_bytes line.old ++ style_end (styling style.now)) }
@@ -70,7 +71,8 @@ pub(crate) fn push_style_end(line: &mut String, style: &TextStyle<'_>) -> Result
     Ok(())
 }
 
-/// Appends the sequence that ends all colours and attributes.
+/// Appends the sequence that ends all colours and attributes, `ESC[0m`. The only error is
+/// `OutOfMemory`.
 pub(crate) fn push_reset(line: &mut String) -> Result<()>
     ensures { OnOk result (string_bytes line.new ≡ string_bytes line.old ++ reset) }
 {

@@ -7,11 +7,14 @@ ghost use Rattle.comfy_table.specs.TextStyles.{style_alone, styling};
 use comfy_parts::Cell;
 use comfy_parts::style::{Attribute, Color};
 
-/// The colours and the attributes of a text.
+/// The colours and attributes in which a text is written.
 #[derive(Clone, Copy)]
 pub struct TextStyle<'a> {
+    /// The colour of the text; `None` if it isn't set.
     pub foreground: Option<Color>,
+    /// The colour of the background; `None` if it isn't set.
     pub background: Option<Color>,
+    /// The attributes of the text, such as `Attribute::Bold`, in any order.
     pub attributes: &'a [Attribute],
 }
 

@@ -9,7 +9,7 @@ pub returns-in-Ok-output_of_input-clause-drawn : goal.returns-in-Ok-output_of_in
 returns-in-Ok-output_of_input-clause-drawn c =
     record {
       invocation = c.in-Ok.invocation;
-      is_asked = c.in-Ok.ensures.ok;
+      is_parsed = c.in-Ok.ensures.ok;
       is_output = subst (λ (bytes : Text). RendersInput c.in-Ok.invocation.options bytes (string_bytes c.in-Ok-output_of_input.output)) c.in_ok-input.ensures.items c.in-Ok-output_of_input.ensures.output;
     }
 

@@ -13,7 +13,7 @@ same_truth true true same = refl
 pub returns : goal.returns
 returns c =
     record {
-      is_asked = of_ok _ c.parse.result c.in_ok-invocation.invocation c.in_ok-invocation.ensures.value c.parse.ensures.ok;
+      is_parsed = of_ok _ c.parse.result c.in_ok-invocation.invocation c.in_ok-invocation.ensures.value c.parse.ensures.ok;
       unkept = c.if-look.false;
       kind = same_truth c.in_ok-invocation.invocation.options.look.is_markdown c.args.is_markdown c.if-look-is_markdown.false;
       are = of_ok _ c.records_for.result c.in_ok-records.records c.in_ok-records.ensures.value c.records_for.ensures;

@@ -11,9 +11,9 @@ pub loop-preserved : goal.loop-preserved
 loop-preserved c =
     let left = c.args.most - (c.loop.counter + 1) in
     let turns : c.args.most - c.loop.counter ≡ suc left = omega arith in
-    let one = one_counted c.args.delimiter c.args.has_quotes left c.loop.rest.now c.in-Some.count c.in-Some.behind.now c.in-Some.ensures in
+    let one = one_counted c.args.delimiter c.args.has_quotes left c.loop.rest.now c.in-Some.count c.in-Some.after.now c.in-Some.ensures in
     rw c.in_ok-push.ensures.items
-    (append_assoc c.loop.counts.items (c.in-Some.count ∷ []) (counts_left c.args.delimiter c.args.has_quotes left c.in-Some.behind.now) ∙ rw (turns, one) at c.loop.invariant)
+    (append_assoc c.loop.counts.items (c.in-Some.count ∷ []) (counts_left c.args.delimiter c.args.has_quotes left c.in-Some.after.now) ∙ rw (turns, one) at c.loop.invariant)
 
 pub returns : goal.returns
 returns c =

@@ -1,6 +1,6 @@
 use Rattle.std.proofs.Common.{rules}
 use Rattle.std.specs.Char.{IsScalar}
-use Rattle.csv_records.proofs.EncodingLemmas.{first_unpaired, more_decoded, odd_behind, whole}
+use Rattle.csv_records.proofs.EncodingLemmas.{first_unpaired, more_decoded, odd_after, whole}
 use Rattle.csv_records.proofs.encoding.utf16_text.Goals as goal
 
 pub loop-read-preserved : goal.loop-read-preserved
@@ -18,7 +18,7 @@ pub returns-then-bytes-eq1-clause-refused : goal.returns-then-bytes-eq1-clause-r
 returns-then-bytes-eq1-clause-refused c =
     let steps = rw c.in-None.is at c.next.ensures.steps in
     let odd = rw c.without_utf16_mark-bytes.ensures at c.if-bytes-eq1.true in
-    rw (c.not_utf16-then-bytes-eq1.ensures, c.as_str-then-bytes-eq1.ensures.value) (odd_behind _ c.loop-read.read-iterator c.next.new.self _ c.loop-read.invariant c.args.skip steps _ odd)
+    rw (c.not_utf16-then-bytes-eq1.ensures, c.as_str-then-bytes-eq1.ensures.value) (odd_after _ c.loop-read.read-iterator c.next.new.self _ c.loop-read.invariant c.args.skip steps _ odd)
 
 pub returns-clause-text : goal.returns-clause-text
 returns-clause-text c =

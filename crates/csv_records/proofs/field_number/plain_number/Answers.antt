@@ -36,11 +36,11 @@ returns-in-46-clause-value c =
     let so : c.if-not-is_empty.is_number ≡ (not (length digits == 0) && not (is_name digits)) = elim c.if-not-is_empty.branch [ then-not-is_empty w ↦ search (rules, tests) | else-not-is_empty w ↦ search (rules, tests) ] in
     let rest : left ≡ drop (prefix_len is_ascii_digit digits) digits = search (rules, tests) in
     let first : get_or left 0 0 ≡ 0x2E = search (rules, tests) in
-    let behind : list_all is_ascii_digit (take (length left - 1) (drop 1 left)) ≡ true = sym c.are_digits.ensures ∙ c.if-are_digits.true in
+    let after : list_all is_ascii_digit (take (length left - 1) (drop 1 left)) ≡ true = sym c.are_digits.ensures ∙ c.if-are_digits.true in
     let some : 0 < length (drop (prefix_len is_ascii_digit digits) digits) = omega (arith, c.in-46.len_at_least, ap length rest) in
-    let digital = ap (λ (t : Text). list_all is_ascii_digit (take (length t - 1) (drop 1 t))) (sym rest) ∙ behind in
+    let digital = ap (λ (t : Text). list_all is_ascii_digit (take (length t - 1) (drop 1 t))) (sym rest) ∙ after in
     let begins = ap (λ (t : Text). get_or t 0 0) (sym rest) ∙ first in
-    let fraction : c.read_fraction.result ≡ record { len = length (drop (prefix_len is_ascii_digit digits) digits); is_read = true } = c.read_fraction.ensures ∙ ap (λ (t : Text). record { len = length t; is_read = true }) rest in
+    let fraction : c.read_fraction.result ≡ record { len = length (drop (prefix_len is_ascii_digit digits) digits); is_readable = true } = c.read_fraction.ensures ∙ ap (λ (t : Text). record { len = length t; is_readable = true }) rest in
     let more : 1 < length digits = search (rules, tests) in
     c.decimal_number-in-46.ensures ∙ ap (λ f. decimal_of c.if-not-is_empty.is_number c.args.is_bare f none) fraction ∙ point_number digits c.if-not-is_empty.is_number so c.args.is_bare some begins digital more
 
@@ -51,9 +51,9 @@ returns-in-46-clause-bare c =
     let so : c.if-not-is_empty.is_number ≡ (not (length digits == 0) && not (is_name digits)) = elim c.if-not-is_empty.branch [ then-not-is_empty w ↦ search (rules, tests) | else-not-is_empty w ↦ search (rules, tests) ] in
     let rest : left ≡ drop (prefix_len is_ascii_digit digits) digits = search (rules, tests) in
     let first : get_or left 0 0 ≡ 0x2E = search (rules, tests) in
-    let behind : list_all is_ascii_digit (take (length left - 1) (drop 1 left)) ≡ true = sym c.are_digits.ensures ∙ c.if-are_digits.true in
+    let after : list_all is_ascii_digit (take (length left - 1) (drop 1 left)) ≡ true = sym c.are_digits.ensures ∙ c.if-are_digits.true in
     let some : 0 < length (drop (prefix_len is_ascii_digit digits) digits) = omega (arith, c.in-46.len_at_least, ap length rest) in
-    let digital = ap (λ (t : Text). list_all is_ascii_digit (take (length t - 1) (drop 1 t))) (sym rest) ∙ behind in
+    let digital = ap (λ (t : Text). list_all is_ascii_digit (take (length t - 1) (drop 1 t))) (sym rest) ∙ after in
     let begins = ap (λ (t : Text). get_or t 0 0) (sym rest) ∙ first in
     marked_is_inner digits c.if-not-is_empty.is_number so c.args.is_bare 0x2E refl some begins digital
 
@@ -64,11 +64,11 @@ returns-in-44-clause-value c =
     let so : c.if-not-is_empty.is_number ≡ (not (length digits == 0) && not (is_name digits)) = elim c.if-not-is_empty.branch [ then-not-is_empty w ↦ search (rules, tests) | else-not-is_empty w ↦ search (rules, tests) ] in
     let rest : left ≡ drop (prefix_len is_ascii_digit digits) digits = search (rules, tests) in
     let first : get_or left 0 0 ≡ 0x2C = search (rules, tests) in
-    let behind : list_all is_ascii_digit (take (length left - 1) (drop 1 left)) ≡ true = sym c.are_digits-then-digits-gt1-2.ensures ∙ c.if-are_digits-2.true in
+    let after : list_all is_ascii_digit (take (length left - 1) (drop 1 left)) ≡ true = sym c.are_digits-then-digits-gt1-2.ensures ∙ c.if-are_digits-2.true in
     let some : 0 < length (drop (prefix_len is_ascii_digit digits) digits) = omega (arith, c.in-44.len_at_least, ap length rest) in
-    let digital = ap (λ (t : Text). list_all is_ascii_digit (take (length t - 1) (drop 1 t))) (sym rest) ∙ behind in
+    let digital = ap (λ (t : Text). list_all is_ascii_digit (take (length t - 1) (drop 1 t))) (sym rest) ∙ after in
     let begins = ap (λ (t : Text). get_or t 0 0) (sym rest) ∙ first in
-    let fraction : c.read_fraction-in-44.result ≡ record { len = length (drop (prefix_len is_ascii_digit digits) digits); is_read = true } = c.read_fraction-in-44.ensures ∙ ap (λ (t : Text). record { len = length t; is_read = true }) rest in
+    let fraction : c.read_fraction-in-44.result ≡ record { len = length (drop (prefix_len is_ascii_digit digits) digits); is_readable = true } = c.read_fraction-in-44.ensures ∙ ap (λ (t : Text). record { len = length t; is_readable = true }) rest in
     let more : 1 < length digits = search (rules, tests) in
     c.decimal_number-in-44.ensures ∙ ap (λ f. decimal_of c.if-not-is_empty.is_number c.args.is_bare none f) fraction ∙ comma_number digits c.if-not-is_empty.is_number so c.args.is_bare some begins digital more
 
@@ -79,8 +79,8 @@ returns-in-44-clause-bare c =
     let so : c.if-not-is_empty.is_number ≡ (not (length digits == 0) && not (is_name digits)) = elim c.if-not-is_empty.branch [ then-not-is_empty w ↦ search (rules, tests) | else-not-is_empty w ↦ search (rules, tests) ] in
     let rest : left ≡ drop (prefix_len is_ascii_digit digits) digits = search (rules, tests) in
     let first : get_or left 0 0 ≡ 0x2C = search (rules, tests) in
-    let behind : list_all is_ascii_digit (take (length left - 1) (drop 1 left)) ≡ true = sym c.are_digits-then-digits-gt1-2.ensures ∙ c.if-are_digits-2.true in
+    let after : list_all is_ascii_digit (take (length left - 1) (drop 1 left)) ≡ true = sym c.are_digits-then-digits-gt1-2.ensures ∙ c.if-are_digits-2.true in
     let some : 0 < length (drop (prefix_len is_ascii_digit digits) digits) = omega (arith, c.in-44.len_at_least, ap length rest) in
-    let digital = ap (λ (t : Text). list_all is_ascii_digit (take (length t - 1) (drop 1 t))) (sym rest) ∙ behind in
+    let digital = ap (λ (t : Text). list_all is_ascii_digit (take (length t - 1) (drop 1 t))) (sym rest) ∙ after in
     let begins = ap (λ (t : Text). get_or t 0 0) (sym rest) ∙ first in
     marked_is_inner digits c.if-not-is_empty.is_number so c.args.is_bare 0x2C refl some begins digital

@@ -18,7 +18,7 @@ returns c =
     let found : Some before ≡ position (is_longer records) records = search rules in
     let rest : length c.skip_records-from.result.now ≡ length (skip_records (config_for c.args.delimiter options.has_quotes) before (strip_bom c.args.rest.now)) = search rules in
     let line : c.line_before.result ≡ line_of_record options text before =
-    c.line_before.ensures ∙ ap (λ (n : ℕ). line_number options.skip (take (length text - n) text)) rest ∙ line_is options text other c.args.delimiter c.args.rest.now before c.requires.byte c.requires.behind in
+    c.line_before.ensures ∙ ap (λ (n : ℕ). line_number options.skip (take (length text - n) text)) rest ∙ line_is options text other c.args.delimiter c.args.rest.now before c.requires.byte c.requires.after in
     let counted = c.count_longer.ensures ∙ ap (λ (n : ℕ). count_by (λ (fields : List Text). nat_lt n (filled_len fields)) records) first in
     let others : c.saturating_sub-others.result ≡ count_by (is_longer records) records - 1 = c.saturating_sub-others.ensures ∙ ap (λ (n : ℕ). n - 1) counted in
     let left : c.saturating_sub-2.result ≡ (length records - before) - 1 = search rules in

@@ -4,17 +4,17 @@ use Rattle.std.specs.List.{slice_index}
 use Rattle.csv_records.specs.QuoteWalk.{StaysQuoted}
 use Rattle.csv_records.proofs.QuoteLemmas.{both_quotes, closes, next_quote, no_quote, not_true, quoted_run}
 use Rattle.csv_records.proofs.quotes.closing_end.Goals as goal
-use Rattle.csv_records.proofs.quotes.closing_end.Goals.{then-behind-bytes-via-then-behind-bytes, then-behind-bytes-via-else-behind-bytes+then-bytes-behind-ne-QUOTE}
+use Rattle.csv_records.proofs.quotes.closing_end.Goals.{then-after-bytes-via-then-after-bytes, then-after-bytes-via-else-after-bytes+then-bytes-after-ne-QUOTE}
 
-pub returns-then-behind-bytes-clause-some : goal.returns-then-behind-bytes-clause-some
-returns-then-behind-bytes-clause-some c delimiter is =
+pub returns-then-after-bytes-clause-some : goal.returns-then-after-bytes-clause-some
+returns-then-after-bytes-clause-some c delimiter is =
     let text = c.args.bytes.now in
     let quote = c.quotes.at + c.in-Some.ahead in
     let found = next_quote text c.quotes.at c.quotes.invariant.1 c.in-Some.ahead c.in-Some.ensures in
     let so = quoted_run delimiter text c.in-Some.ahead c.args.from c.quotes.at (omega (arith, found.0)) (c.quotes.invariant.2 delimiter is) found.2 in
-    let alone : quote + 1 < length text → (slice_index text (quote + 1) == 0x22) ≡ false = λ within. elim c.then-behind-bytes.branch [
-      | then-behind-bytes-via-then-behind-bytes w ↦ let ends = w.if-behind-bytes.true in absurd (omega (arith, ends, within))
-      | then-behind-bytes-via-else-behind-bytes+then-bytes-behind-ne-QUOTE w ↦ not_true _ (λ same. w.if-bytes-behind-ne-QUOTE.true (eqb-true (slice_index text (quote + 1)) 0x22 same))
+    let alone : quote + 1 < length text → (slice_index text (quote + 1) == 0x22) ≡ false = λ within. elim c.then-after-bytes.branch [
+      | then-after-bytes-via-then-after-bytes w ↦ let ends = w.if-after-bytes.true in absurd (omega (arith, ends, within))
+      | then-after-bytes-via-else-after-bytes+then-bytes-after-ne-QUOTE w ↦ not_true _ (λ same. w.if-bytes-after-ne-QUOTE.true (eqb-true (slice_index text (quote + 1)) 0x22 same))
     ] in
     closes delimiter text c.args.from quote found.0 so found.1 alone
 
@@ -23,8 +23,8 @@ quotes-preserved c =
     let text = c.args.bytes.now in
     let quote = c.quotes.at + c.in-Some.ahead in
     let found = next_quote text c.quotes.at c.quotes.invariant.1 c.in-Some.ahead c.in-Some.ensures in
-    let within : quote + 1 < length text = omega (arith, found.0, c.if-behind-bytes.false) in
-    let again : (slice_index text (quote + 1) == 0x22) ≡ true = eq-eqb (slice_index text (quote + 1)) 0x22 c.if-bytes-behind-ne-QUOTE.false in (
+    let within : quote + 1 < length text = omega (arith, found.0, c.if-after-bytes.false) in
+    let again : (slice_index text (quote + 1) == 0x22) ≡ true = eq-eqb (slice_index text (quote + 1)) 0x22 c.if-bytes-after-ne-QUOTE.false in (
       omega (arith, c.quotes.invariant.0),
       omega (arith, within),
       λ delimiter is.

@@ -10,7 +10,7 @@ pub returns-then-is_last-clause-text : goal.returns-then-is_last-clause-text
 returns-then-is_last-clause-text c =
     let own = c.args.left in
     let left : List (List Text) = drop own.place own.arranged.contents.rows.selected.rows in
-    let rows : c.rows_behind-rows.result ≡ left = search rules in
+    let rows : c.rows_after-rows.result ≡ left = search rules in
     let next : c.first_rows-next.result ≡ take 256 left = search rules in
     let count : length (take 256 left) ≡ length left = search rules in
     let all : take 256 left ≡ left = all_taken 256 left count in
@@ -26,20 +26,20 @@ returns-clause-text c =
     let all : List (List Text) = own.arranged.contents.rows.selected.rows in
     let left : List (List Text) = drop own.place all in
     let next : c.first_rows-next.result ≡ take 256 left = search rules in
-    let rows : c.rows_behind-rows.result ≡ left = search rules in
+    let rows : c.rows_after-rows.result ≡ left = search rules in
     let count : c.len-count.result ≡ length (take 256 left) = c.len-count.ensures ∙ ap length next in
     let whole : c.len.result ≡ length left = c.len.ensures ∙ ap length rows in
     let more : (c.len-count.result == c.len.result) ≡ false = grind (arith, nat_tests, c.if-is_last.false) in
     let drawn : Bool → List (List Text) → Text = λ b rs. drawn_next own.arranged.contents.rows own.arranged.contents.table own.arranged.infos own.place own.is_first b rs in
     let had = string_bytes c.args.text.now in
-    let behind = drawn_next own.arranged.contents.rows own.arranged.contents.table own.arranged.infos (own.place + length (take 256 left)) false true (drop (own.place + length (take 256 left)) all) in
+    let after = drawn_next own.arranged.contents.rows own.arranged.contents.table own.arranged.infos (own.place + length (take 256 left)) false true (drop (own.place + length (take 256 left)) all) in
     let pushed : string_bytes c.push_records.new.text ≡ had ++ drawn false (take 256 left) = c.in_ok-push_records.ensures ∙ ap₂ (λ (b : Bool) (rs : List (List Text)). had ++ drawn b rs) more next in
-    let parts : drawn true left ≡ drawn false (take 256 left) ++ behind =
+    let parts : drawn true left ≡ drawn false (take 256 left) ++ after =
     next_piece own.arranged.contents.rows own.arranged.contents.table own.arranged.infos own.place 256 own.is_first all (omega arith) (λ same. c.if-is_last.false (count ∙ same ∙ sym whole)) in
     ap (λ (t : Text). had ++ (t ++ string_bytes own.note)) parts
-    ∙ ap (λ (t : Text). had ++ t) (append_assoc (drawn false (take 256 left)) behind (string_bytes own.note))
-    ∙ sym (append_assoc had (drawn false (take 256 left)) (behind ++ string_bytes own.note))
-    ∙ ap (λ (t : Text). t ++ (behind ++ string_bytes own.note)) (sym pushed)
+    ∙ ap (λ (t : Text). had ++ t) (append_assoc (drawn false (take 256 left)) after (string_bytes own.note))
+    ∙ sym (append_assoc had (drawn false (take 256 left)) (after ++ string_bytes own.note))
+    ∙ ap (λ (t : Text). t ++ (after ++ string_bytes own.note)) (sym pushed)
     ∙ ap (λ (n : ℕ). string_bytes c.push_records.new.text ++ (drawn_next own.arranged.contents.rows own.arranged.contents.table own.arranged.infos (own.place + n) false true (drop (own.place + n) all) ++ string_bytes own.note)) (sym count)
 
 pub returns-clause-place : goal.returns-clause-place
@@ -48,7 +48,7 @@ returns-clause-place c =
     let all : List (List Text) = own.arranged.contents.rows.selected.rows in
     let left : List (List Text) = drop own.place all in
     let next : c.first_rows-next.result ≡ take 256 left = search rules in
-    let rows : c.rows_behind-rows.result ≡ left = search rules in
+    let rows : c.rows_after-rows.result ≡ left = search rules in
     let count : c.len-count.result ≡ length (take 256 left) = c.len-count.ensures ∙ ap length next in
     let whole : c.len.result ≡ length left = c.len.ensures ∙ ap length rows in
     let taken = many_taken 256 left (λ same. c.if-is_last.false (count ∙ same ∙ sym whole)) in

@@ -4,7 +4,7 @@ use Rattle.comfy_parts.specs.Text.{Text}
 use Rattle.csv_records.specs.Cleaning.{visible_of}
 use Rattle.csv_tables.specs.Columns.{seen}
 use Rattle.csv_tables.specs.Summaries.{AreSummaries, column_fields, summary_of}
-use Rattle.csv_tables.proofs.ExpandedLemmas.{at_place, none_behind}
+use Rattle.csv_tables.proofs.ExpandedLemmas.{at_place, none_after}
 use Rattle.csv_tables.proofs.SummaryLemmas.{known_at, next_field, no_field, seen_here}
 use Rattle.csv_tables.proofs.summary.add_record.Goals as goal
 
@@ -46,6 +46,6 @@ returns c rows start =
     let ends = c.in-None.ensures.steps in
     let had = c.loop-position.invariant in
     let k : ℕ = c.loop-position.position in
-    let past : length row ≤ k = none_behind row k (sym had.left ∙ ends.0) in
+    let past : length row ≤ k = none_after row k (sym had.left ∙ ends.0) in
     let all : length fields ≤ k = omega (arith, past, length-map row (visible_of c.args.has_sequences)) in
     subst (λ (fs : List Text). AreSummaries (rows ++ fs ∷ []) c.loop-position.summaries.items) (take_all k fields all) (had.so rows start)

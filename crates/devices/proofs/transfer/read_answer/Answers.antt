@@ -1,5 +1,5 @@
 use Rattle.std.proofs.Common.{◌≡◌, ◌<◌, [], true, length, rules, sym, ◌∙◌}
-use Rattle.devices.proofs.AskedLemmas.{answered_by_beginning, answered_by_whole, asked_again}
+use Rattle.devices.proofs.TestedLemmas.{answered_by_beginning, answered_by_whole, tested_again}
 use Rattle.devices.proofs.DeviceLemmas.{moves_on}
 use Rattle.devices.specs.Transfer.{IsRenderedBy}
 use Rattle.devices.proofs.transfer.read_answer.Goals as goal
@@ -10,7 +10,7 @@ returns-in-Some-clause-answer g c =
     let moved = moves_on _ _ _ [] _ c.loop-input.invariant.moved _ c.in_ok-read_up_to.ensures.moved in
     let full : length c.read_up_to.new.bytes.items ≡ c.loop-input.len = search rules in
     let ended : g.R.Source.end_was_read c.read_up_to.new.source ≡ g.R.Source.end_was_read c.args.source.now = search rules in
-    answered_by_beginning (D.is_not_enough c.args.drawing.now) _ _ c.loop-input.len _ c.loop-input.invariant.asked moved (IsRenderedBy g.D.Output.Pieces.rest (D.is_output c.args.drawing.now) (D.are_findings c.args.drawing.now)) (D.is_refusal c.args.drawing.now) c.in-Some.answer _ full
+    answered_by_beginning (D.is_not_enough c.args.drawing.now) _ _ c.loop-input.len _ c.loop-input.invariant.tested moved (IsRenderedBy g.D.Output.Pieces.rest (D.is_output c.args.drawing.now) (D.are_findings c.args.drawing.now)) (D.is_refusal c.args.drawing.now) c.in-Some.answer _ full
     (λ all is own. g.met.R.Source.ended c.args.source.now (sym ended ∙ is) all own) (rw c.as_slice.ensures.value at c.in-Some.ensures.some)
 
 pub loop-input-preserved : goal.loop-input-preserved
@@ -21,7 +21,7 @@ loop-input-preserved g c =
       moved = moved;
       ended = search rules;
       fewer = search rules;
-      asked = asked_again _ _ _ _ _ c.loop-input.invariant.asked moved full (rw c.as_slice.ensures.value at c.in_default.ensures.none);
+      tested = tested_again _ _ _ _ _ c.loop-input.invariant.tested moved full (rw c.as_slice.ensures.value at c.in_default.ensures.none);
     }
 
 pub returns-clause-answer : goal.returns-clause-answer
@@ -30,5 +30,5 @@ returns-clause-answer g c =
     let moved = moves_on _ _ _ [] _ c.loop-input.invariant.moved _ c.in_ok-read_up_to.ensures.moved in
     let few : length c.read_up_to.new.bytes.items < c.loop-input.len = search rules in
     let ended : g.R.Source.end_was_read c.read_up_to.new.source ≡ true = search rules in
-    answered_by_whole (D.is_not_enough c.args.drawing.now) _ _ c.loop-input.len _ c.loop-input.invariant.asked moved (IsRenderedBy g.D.Output.Pieces.rest (D.is_output c.args.drawing.now) (D.are_findings c.args.drawing.now)) (D.is_refusal c.args.drawing.now) c.render.result _ few ended
+    answered_by_whole (D.is_not_enough c.args.drawing.now) _ _ c.loop-input.len _ c.loop-input.invariant.tested moved (IsRenderedBy g.D.Output.Pieces.rest (D.is_output c.args.drawing.now) (D.are_findings c.args.drawing.now)) (D.is_refusal c.args.drawing.now) c.render.result _ few ended
     (λ left own. g.met.R.Source.ended c.read_up_to.new.source ended left own) c.render.ensures

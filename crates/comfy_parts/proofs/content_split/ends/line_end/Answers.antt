@@ -26,13 +26,13 @@ returns c =
     let columns = c.requires.columns.fits c.if-columns-width.false in
     let narrow : nat_lt c.args.width (measure word) ≡ false = grind (arith, nat_tests, columns, c.if-columns-width.false) in
     let long : length word ≡ c.args.first = ap length (sym c.split_at.ensures.front) ∙ c.split_at.ensures.front_len in
-    let taken = c.taken_behind-taken.ensures.value c.requires.element.others (rw c.split_at.ensures.back c.requires.element.follow) in
+    let taken = c.taken_after-taken.ensures.value c.requires.element.others (rw c.split_at.ensures.back c.requires.element.follow) in
     record {
       end = ap₂ (λ a b. a + b) (sym long) (taken ∙ ap (λ n. bytes_taken c.args.width c.args.delimiter n c.requires.element.others) columns)
           ∙ sym (line_end-narrow c.args.width c.args.delimiter c.args.text.now word (drop c.args.first c.args.text.now) c.requires.element narrow);
       columns = elim c.if-adds_one_column.branch [
-        | then-adds_one_column w ↦ rw w.columns-is (line-columns c.args.delimiter c.args.text.now c.split_at.result.1.now c.args.first c.args.columns c.taken_behind-taken.result.bytes (c.adds_one_column.ensures.adds w.if-adds_one_column.true) c.requires.element.whole_first columns c.split_at.ensures.back _ c.taken_behind-taken.ensures.columns)
+        | then-adds_one_column w ↦ rw w.columns-is (line-columns c.args.delimiter c.args.text.now c.split_at.result.1.now c.args.first c.args.columns c.taken_after-taken.result.bytes (c.adds_one_column.ensures.adds w.if-adds_one_column.true) c.requires.element.whole_first columns c.split_at.ensures.back _ c.taken_after-taken.ensures.columns)
         | else-adds_one_column w ↦ rw w.columns-is tt
       ];
-      measured = measured-past c.args.delimiter c.args.text.now c.split_at.result.0.now c.split_at.result.1.now c.taken_behind-taken.result.measured (sym (ap₂ (λ (a b : Text). a ++ b) c.split_at.ensures.front c.split_at.ensures.back ∙ take-append-drop c.args.first c.args.text.now)) c.taken_behind-taken.ensures.measured;
+      measured = measured-past c.args.delimiter c.args.text.now c.split_at.result.0.now c.split_at.result.1.now c.taken_after-taken.result.measured (sym (ap₂ (λ (a b : Text). a ++ b) c.split_at.ensures.front c.split_at.ensures.back ∙ take-append-drop c.args.first c.args.text.now)) c.taken_after-taken.ensures.measured;
     }

@@ -6,8 +6,8 @@ use Rattle.comfy_parts.specs.Text.{is_printable_ascii}
 use Rattle.comfy_parts.specs.Wrapping.{wrapped}
 use Rattle.comfy_parts.proofs.content_split.ends.line_start.Given as goal
 
-abbrev pub invariant-loop-behind : goal.invariant-loop-behind
-invariant-loop-behind l =
+abbrev pub invariant-loop-after : goal.invariant-loop-after
+invariant-loop-after l =
     record {
       utf8 : shadow (Utf8 l.rest);
       bound : length l.rest ≤ length l.text;
@@ -16,5 +16,5 @@ invariant-loop-behind l =
       lines : (w : ℕ) → wrapped w l.delimiter l.rest ≡ wrapped w l.delimiter l.text;
     }
 
-abbrev pub decreases-loop-behind : goal.decreases-loop-behind
-decreases-loop-behind l = length l.rest
+abbrev pub decreases-loop-after : goal.decreases-loop-after
+decreases-loop-after l = length l.rest

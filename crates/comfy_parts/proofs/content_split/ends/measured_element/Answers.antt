@@ -35,4 +35,4 @@ returns-then-ends_element-clause-columns c =
     sym (measure-printable c.split_at.result.0.now (ap is_printable_ascii (sym front_is) ∙ c.printable_run.ensures.printable))
 
 pub split_at-requires-in-Some : goal.split_at-requires-in-Some
-split_at-requires-in-Some c = front-boundary c.args.delimiter c.args.text.now c.in-Some.behind.now c.in-Some.columns c.in-Some.ensures
+split_at-requires-in-Some c = front-boundary c.args.delimiter c.args.text.now c.in-Some.after.now c.in-Some.columns c.in-Some.ensures

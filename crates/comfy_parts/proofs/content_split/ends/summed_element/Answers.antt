@@ -12,16 +12,16 @@ pub split_at-requires : goal.split_at-requires
 split_at-requires c =
     let some : 0 < length c.loop-delimiter.rest.now = grind (arith, nat_tests) in
     let is : begins_wide c.loop-delimiter.rest.now ≡ true = ap begins_wide (sym c.as_bytes.ensures.value) ∙ sym c.begins_wide.ensures ∙ c.if-begins_wide.true in
-    (begins-wide c.loop-delimiter.rest.now c.loop-delimiter.invariant.behind some is).boundary
+    (begins-wide c.loop-delimiter.rest.now c.loop-delimiter.invariant.after some is).boundary
 
 pub loop-delimiter-preserved-then-begins_wide : goal.loop-delimiter-preserved-then-begins_wide
 loop-delimiter-preserved-then-begins_wide c =
     let d = c.args.delimiter in
     let some : 0 < length c.loop-delimiter.rest.now = grind (arith, nat_tests) in
     let is : begins_wide c.loop-delimiter.rest.now ≡ true = ap begins_wide (sym c.as_bytes.ensures.value) ∙ sym c.begins_wide.ensures ∙ c.if-begins_wide.true in
-    let wide = begins-wide c.loop-delimiter.rest.now c.loop-delimiter.invariant.behind some is in
+    let wide = begins-wide c.loop-delimiter.rest.now c.loop-delimiter.invariant.after some is in
     let outside : is_in_range 0x4E00 0xCFFF d ≡ false = grind (arith, nat_tests, c.contains.ensures, c.if-contains.false) in
-    subst (λ (t : Text). IsRun d c.args.text.now t (c.loop-delimiter.columns + 2)) (sym (c.split_at.ensures.back ∙ wide.behind))
+    subst (λ (t : Text). IsRun d c.args.text.now t (c.loop-delimiter.columns + 2)) (sym (c.split_at.ensures.back ∙ wide.after))
     (run-more d c.args.text.now c.loop-delimiter.rest.now wide.later c.loop-delimiter.columns wide.first 2 c.loop-delimiter.invariant wide.splits wide.columns (wide-other wide.first d wide.wide outside))
 
 pub returns-then-character-delimiter : goal.returns-then-character-delimiter

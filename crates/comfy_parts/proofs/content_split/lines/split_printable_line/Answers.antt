@@ -1,7 +1,7 @@
 use Rattle.std.proofs.Common.{◌∷◌, List, ap, sym, ◌∙◌}
 use Rattle.comfy_parts.specs.Text.{Text}
 use Rattle.comfy_parts.specs.Wrapping.{line_end, wrapped}
-use Rattle.comfy_parts.proofs.LinesLemmas.{line-place, line-then, printable-behind, printable-starts}
+use Rattle.comfy_parts.proofs.LinesLemmas.{line-place, line-then, printable-after, printable-starts}
 use Rattle.comfy_parts.proofs.MeasuredLineLemmas.{first-measured}
 use Rattle.comfy_parts.proofs.content_split.lines.split_printable_line.Goals as goal
 
@@ -22,5 +22,5 @@ returns-clause-columns c =
 
 pub returns-clause-printable : goal.returns-clause-printable
 returns-clause-printable c =
-    let behind = printable-behind c.args.width c.args.delimiter c.args.text.now c.requires.printable c.printable_line_end-end.result c.split_at.result.1.now c.split_at.ensures.back in
-    record { columns = behind.columns; delimiter = behind.delimiter; printable = c.line_start.ensures.printable behind.printable }
+    let after = printable-after c.args.width c.args.delimiter c.args.text.now c.requires.printable c.printable_line_end-end.result c.split_at.result.1.now c.split_at.ensures.back in
+    record { columns = after.columns; delimiter = after.delimiter; printable = c.line_start.ensures.printable after.printable }

@@ -11,7 +11,7 @@ wrapped_at : (w n d : ℕ) (text : Text) (lines : List Text) → IsScalar d → 
 wrapped_at w n d text lines scalar utf8 width are = subst (IsWrapped w d text) (sym (are ∙ ap (λ n. wrapped n d text) width)) (wrapped_is_wrapped w d text scalar utf8)
 
 pub returns-clause-slices : goal.returns-clause-slices
-returns-clause-slices c = wrapped_at _ _ _ _ _ c.ranges.delimiter.0 c.utf8.line (c.from-width.ensures ∙ ap (λ i. i.content_width) c.info.view_is) c.lines_behind.ensures
+returns-clause-slices c = wrapped_at _ _ _ _ _ c.ranges.delimiter.0 c.utf8.line (c.from-width.ensures ∙ ap (λ i. i.content_width) c.info.view_is) c.lines_after.ensures
 
 pub returns-then-is_printable-clause-slices : goal.returns-then-is_printable-clause-slices
 returns-then-is_printable-clause-slices c = wrapped_at _ _ _ _ _ c.ranges.delimiter.0 c.utf8.line (c.from-width.ensures ∙ ap (λ i. i.content_width) c.info.view_is) c.printable_lines.ensures

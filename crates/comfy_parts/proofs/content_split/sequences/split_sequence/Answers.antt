@@ -1,7 +1,7 @@
 use Rattle.std.proofs.Common.{◌<◌, arith}
 use Rattle.comfy_parts.specs.VisibleText.{sequence_len}
-use Rattle.comfy_parts.proofs.VisibleWholeLemmas.{behind_sequence}
-use Rattle.comfy_parts.proofs.FrontLemmas.{parts-behind_sequence}
+use Rattle.comfy_parts.proofs.VisibleWholeLemmas.{after_sequence}
+use Rattle.comfy_parts.proofs.FrontLemmas.{parts-after_sequence}
 use Rattle.comfy_parts.proofs.content_split.sequences.split_sequence.Goals as goal
 
 pub returns-clause-some : goal.returns-clause-some
@@ -9,11 +9,11 @@ returns-clause-some c =
     let text = c.args.text.now in
     let len = c.sequence_len-len.ensures.value in
     let some : 0 < sequence_len text = omega (arith, len, c.if-len-eq0.false) in
-    rw (c.split_at.ensures.front, c.split_at.ensures.back, len) (parts-behind_sequence text some)
+    rw (c.split_at.ensures.front, c.split_at.ensures.back, len) (parts-after_sequence text some)
 
 pub returns-clause-whole : goal.returns-clause-whole
 returns-clause-whole c =
     let text = c.args.text.now in
     let len = c.sequence_len-len.ensures.value in
     let some : 0 < sequence_len text = omega (arith, len, c.if-len-eq0.false) in
-    rw (c.split_at.ensures.back, len) (behind_sequence text c.utf8.text some).whole
+    rw (c.split_at.ensures.back, len) (after_sequence text c.utf8.text some).whole

@@ -16,7 +16,7 @@ loop-rest-preserved-then-begins_wide c =
     let some : 0 < length c.loop-rest.rest.now = grind (arith, nat_tests) in
     let is : begins_wide c.loop-rest.rest.now ≡ true = ap begins_wide (sym c.as_bytes.ensures.value) ∙ sym c.begins_wide.ensures ∙ c.if-begins_wide.true in
     let wide = begins-wide c.loop-rest.rest.now c.loop-rest.invariant.utf8 some is in
-    subst (λ (t : Text). IsCounted c.args.text.now t (c.loop-rest.columns + 2)) (sym (c.split_at.ensures.back ∙ wide.behind))
+    subst (λ (t : Text). IsCounted c.args.text.now t (c.loop-rest.columns + 2)) (sym (c.split_at.ensures.back ∙ wide.after))
     (counted-more c.args.text.now c.loop-rest.rest.now wide.later c.loop-rest.columns wide.first 2 c.loop-rest.invariant wide.splits wide.columns)
 
 pub overflow_add-columns-else-begins_wide : goal.overflow_add-columns-else-begins_wide

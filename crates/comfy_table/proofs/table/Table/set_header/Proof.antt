@@ -7,7 +7,7 @@ use denote.Param.{param, bounded}
 use denote.Param.Laws.{param_laws}
 use denote.Signature.{plain}
 use denote.Triple.Walked.{Goes-dropped}
-use Rattle.comfy_table.proofs.HandedOnWalk.{hands_on_one, type_of}
+use Rattle.comfy_table.proofs.PassedOnWalk.{hands_on_one, type_of}
 use Rattle.comfy_table.specs.contracts.table.Table.set_header as f
 use Rattle.comfy_table.proofs.table.Table.set_header.Statement.{statement}
 use Rattle.comfy_table.proofs.table.Table.set_header.Code as code

@@ -6,7 +6,7 @@ use denote.Such.{such_Lawful}
 use denote.Slice.{ShrSlice, shr_slice_Lawful, slice_ty}
 use denote.Text.{StrRefOf, Utf8}
 use denote.Exit.{yes}
-use Rattle.comfy_table.proofs.HandedOnWalk.{proved_at, leaves, subst, SProp, ent, id⊢, ftrue, flft, fact, tables, WpFn, spot_of, ‵, raw, ◌⊛◌, some, later, ◌$◌, ◌∵◌, !, qed, by, move, keep, drop, use1, use2, split, join, pick, await, rewrite, enter, addr, stop, no_more, and_then, returns, alloc_all, pass_all, free_all, look_at, get, through, sets, lands_as, env, shows, RattleType, mut_vals, plain, type_at, mut_ref_to, no, nothing, peeks, heard, calls_at, Lasts, lasts, at_exit, Vals, triple_of, framed, Stays, walk_of, stay_dropped, Goes-dropped, Goes-spent_ref, one}
+use Rattle.comfy_table.proofs.PassedOnWalk.{proved_at, leaves, subst, SProp, ent, id⊢, ftrue, flft, fact, tables, WpFn, spot_of, ‵, raw, ◌⊛◌, some, later, ◌$◌, ◌∵◌, !, qed, by, move, keep, drop, use1, use2, split, join, pick, await, rewrite, enter, addr, stop, no_more, and_then, returns, alloc_all, pass_all, free_all, look_at, get, through, sets, lands_as, env, shows, RattleType, mut_vals, plain, type_at, mut_ref_to, no, nothing, peeks, heard, calls_at, Lasts, lasts, at_exit, Vals, triple_of, framed, Stays, walk_of, stay_dropped, Goes-dropped, Goes-spent_ref, one}
 use Rattle.comfy_table.specs.TableReference.{reference_of}
 use Rattle.comfy_table.specs.contracts.table.Table as table
 use Rattle.comfy_table.specs.contracts.table.Table.set_truncation_indicator as f

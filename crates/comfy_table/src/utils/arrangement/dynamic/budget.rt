@@ -14,7 +14,7 @@ use comfy_parts::Result;
 // The content widths of the shown columns while they are decided.
 #[derive(Drop)]
 pub struct Budget {
-    // in list order; `None` while a column is undecided
+    // in the order of the table's columns; `None` while a column is undecided
     pub widths: Vec<Option<u16>>,
     // the terminal columns that are left for the contents of undecided columns
     pub room: usize,

@@ -1,4 +1,5 @@
-//! Decides columns whose upper boundary or content is at most the level.
+//! Decides columns whose upper boundary or content is at most the level. The level is a number of
+//! terminal columns: the average room of the columns that are still undecided after this step.
 
 ghost use Rattle.std.specs.Prelude.{◌≡◌, ◌≤◌, ◌<◌, Some, length};
 ghost use Rattle.comfy_table.specs.Deciding.{HasSettled, HasTaken, all_needs, average_room, needs_in, undecided_among};
@@ -9,8 +10,8 @@ use super::budget::Budget;
 use super::needs::WidthNeeds;
 use crate::utils::arrangement::helper::absolute_width_with_padding;
 
-// Settles each undecided column whose upper boundary or content is at most the level: the average
-// room of the columns that the level leaves undecided. If the average is 0, no column is settled.
+// Decides each undecided column whose upper boundary or content is at most the level. If the
+// average room of the undecided columns is 0, no column is decided.
 pub fn settle(columns: &[WidthNeeds<'_>], budget: &mut Budget)
     requires { length budget.old.widths.items ≡ length columns.now }
     ensures { (table : TableValue)
@@ -64,7 +65,7 @@ fn average_beside(columns: &[WidthNeeds<'_>], budget: &Budget, level: usize) -> 
     room.checked_div(left).unwrap_or(0)
 }
 
-// Settles the undecided columns at a level.
+// Decides the undecided columns to which a level gives a width.
 fn settle_at(columns: &[WidthNeeds<'_>], budget: &mut Budget, level: usize)
     ensures { (table : TableValue)
         → HasTaken (settled_claims (Some level)
@@ -80,8 +81,9 @@ fn settle_at(columns: &[WidthNeeds<'_>], budget: &mut Budget, level: usize)
     }
 }
 
-// The width of an undecided column at a level: its upper boundary, if that is at most the level and
-// the content reaches it, or else its content, if that is at most the level.
+// The width that a level gives an undecided column: its upper boundary less the paddings, if that
+// is at most the level and at most the content. Otherwise its content, if that is at most the
+// level, and otherwise `None`.
 fn settled_width(column: &WidthNeeds<'_>, level: usize) -> Option<u16>
     ensures { (table : TableValue) → result ≡ settled_at (Some level) (needs_in table column.now) }
 {

@@ -1,4 +1,4 @@
-//! The numbers that the widths of shown columns depend on.
+//! The numbers on which the widths of shown columns depend.
 
 ghost use Rattle.std.specs.Prelude.{◌≡◌, IfOk};
 ghost use Rattle.comfy_parts.specs.CellValue.{column_padding};
@@ -11,8 +11,8 @@ use crate::utils::arrangement::helper::count_visible_columns;
 use crate::utils::arrangement::source::TableSource;
 use comfy_parts::{Column, Result};
 
-// A shown column with the numbers that its width depends on, besides its cells. All widths are in
-// terminal columns.
+// A shown column with the numbers on which its width depends, in addition to its cells. All widths
+// are in terminal columns.
 #[derive(Drop)]
 pub struct WidthNeeds<'a> {
     pub column: &'a Column,
@@ -61,7 +61,7 @@ impl<'a> WidthNeeds<'a> {
     }
 }
 
-// The needs of the shown columns of a table, in list order.
+// The needs of the shown columns of a table, in the order of the table's columns.
 pub fn shown_needs<C: TableSource>(contents: &C) -> Result<Vec<WidthNeeds<'_>>>
     ensures { IfOk result (λ columns. all_needs (C.whole contents.now) columns.items
         ≡ shown_needs (C.whole contents.now)) }

@@ -21,7 +21,7 @@ pub enum Rule {
     Shrunk,
 }
 
-// The columns that a rule is applied to.
+// The columns to which a rule is applied.
 #[derive(Drop)]
 pub struct Candidates<'a, C> {
     pub contents: &'a C,
@@ -72,8 +72,8 @@ impl<'a, C: TableSource> Candidates<'a, C> {
         }
     }
 
-    // The width that the column at a position takes at this average; `None` if it is decided or
-    // takes none.
+    // The width that the column at a position takes at this average; `None` if the column is
+    // already decided or takes no width.
     fn width_at(&self, budget: &Budget, position: usize, average: usize) -> Result<Option<u16>>
         requires { average ≤ 65535 }
         ensures { IfOk result (λ width. width ≡ width_at self.now.rule average
@@ -106,8 +106,8 @@ fn lower_width(column: &WidthNeeds<'_>, average: usize) -> Option<u16>
     }
 }
 
-// The width that a column shrinks to if it gets this average room: the width of its longest line
-// there, if that leaves three or more terminal columns free.
+// The width to which a column shrinks if it gets this average room: the width of its longest line
+// in this room, if that leaves three or more terminal columns free.
 fn shrunk_width<C: TableSource>(
     contents: &C,
     column: &WidthNeeds<'_>,

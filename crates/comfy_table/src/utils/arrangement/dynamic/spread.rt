@@ -9,7 +9,7 @@ use comfy_parts::Result;
 use std::alloc::Global;
 
 // The final widths. The undecided columns share the room, and get at least one terminal column
-// each. If no column is undecided and `full` is set, the room is spread over all columns.
+// each. If no column is undecided and `full` is true, the room is spread over all columns.
 pub fn final_widths(budget: &Budget, full: bool, alloc: Global) -> Result<Vec<u16>>
     requires { HasRoomToSpread budget.now }
     ensures { IfOk result (λ widths. widths.items ≡ final_widths full budget.now) }

@@ -3,7 +3,7 @@ use Rattle.std.proofs.lemmas.Result.{IfOk-weaker}
 use Rattle.std.specs.List.{slice_index_or}
 use Rattle.std.specs.Prelude.{option_map, slice_get, if◌then◌else◌}
 use Rattle.comfy_parts.specs.Text.{Text}
-use Rattle.csv_tables.proofs.PlainRowLemmas.{cell_behind, cell_of_number, inside, no_number, some_number}
+use Rattle.csv_tables.proofs.PlainRowLemmas.{cell_after, cell_of_number, inside, no_number, some_number}
 use Rattle.csv_tables.proofs.ReachedLemmas.{no_column}
 use Rattle.csv_tables.specs.Cells.{cell_for, columns_within}
 use Rattle.csv_tables.specs.Contents.{plain_by}
@@ -50,6 +50,6 @@ returns c =
     let text : c.unwrap_or-field.result.now ≡ field_or_blank fields column.position = search rules in
     IfOk-weaker c.field_cell.result _ _
     (λ cell is.
-    cell_behind own fields column c.args.at c.args.position place follows found
+    cell_after own fields column c.args.at c.args.position place follows found
     ∙ ap Some (sym (is ∙ ap (λ (field : Text). cell_for look column.alignment (spaced look.has_sequences (if own.is_aligned then column.points else None) field)) text)))
     c.field_cell.ensures

@@ -9,7 +9,7 @@ use Rattle.comfy_table.specs.RowCells.{cell_of}
 use Rattle.comfy_table.specs.TableValue.{cell_content_width, measured_cell}
 use Rattle.csv_tables.proofs.DressedLemmas.{cells_made-length, measured_made}
 use Rattle.csv_tables.proofs.FlatLemmas.{flat_made}
-use Rattle.csv_tables.proofs.PlainRowLemmas.{cell_behind, cell_of_column, inside}
+use Rattle.csv_tables.proofs.PlainRowLemmas.{cell_after, cell_of_column, inside}
 use Rattle.csv_tables.proofs.ReachedLemmas.{no_column}
 use Rattle.csv_tables.proofs.ShownLemmas.{all_cells, as_many_cells, joined_width, one_wider, start_width}
 use Rattle.csv_tables.proofs.WholeRowLemmas.{high}
@@ -19,7 +19,7 @@ use Rattle.csv_tables.specs.Decimals.{spaced}
 use Rattle.csv_tables.specs.Fields.{field_or_blank}
 use Rattle.csv_tables.specs.declared.options.ColumnPlan.{ColumnPlan}
 use Rattle.csv_tables.proofs.rows.RecordRows.widen.Goals as goal
-use Rattle.csv_tables.proofs.rows.RecordRows.widen.Invariants.{behind}
+use Rattle.csv_tables.proofs.rows.RecordRows.widen.Invariants.{after}
 
 pub loop-place-init : goal.loop-place-init
 loop-place-init c =
@@ -48,11 +48,11 @@ loop-place-preserved c =
     let one : first ≡ (if own.selected.is_numbered then 1 else 0) = c.number_count-first.ensures in
     let listed : items ≡ columns = c.columns_within-column-items.ensures in
     let found : slice_get columns k ≡ Some column = ap (λ (all : List ColumnPlan). slice_get all k) (sym listed) ∙ inside items k no_column c.loop-place-test.true in
-    let here : slice_get cells (first + k) ≡ Some (cell_of_column own fields column) = cell_behind own fields column c.args.at (first + k) k (omega (arith, one)) found in
+    let here : slice_get cells (first + k) ≡ Some (cell_of_column own fields column) = cell_after own fields column c.args.at (first + k) k (omega (arith, one)) found in
     let text : c.unwrap_or-field.result.now ≡ field_or_blank fields column.position = search rules in
     let made : cell_of c.in_ok-cell.cell ≡ cell_of_column own fields column =
     c.in_ok-cell.ensures ∙ ap (λ (field : Text). cell_for look column.alignment (spaced look.has_sequences (if own.is_aligned then column.points else None) field)) text in
-    let f : ℕ → ℕ = behind table cells first in
+    let f : ℕ → ℕ = after table cells first in
     let after : nat_lt (first + k) first ≡ false = grind (arith, nat_tests) in
     let width : c.content_width.result ≡ f (first + k) =
     c.content_width.ensures ∙ ap (λ (cell : CellValue). cell_content_width (measured_cell table cell)) made

@@ -9,6 +9,6 @@ pub returns : goal.returns
 returns c =
     IfOk-weaker c.lines.result _ _
     (λ lines drawing short each.
-    c.new_tables_are_straight.ensures utf8_full c.args.header c.args.rows.items lines (c.presets_have_columns_of_one.ensures 7 utf8_full (omega arith)).0 short each
+    c.new_tables_are_straight.ensures utf8_full c.args.header c.args.rows.items lines (c.preset_characters_take_one_column.ensures 7 utf8_full (omega arith)).0 short each
     (subst (λ (table : TableValue). IsTableDrawing table lines) c.in_ok-table.ensures drawing))
     c.lines.ensures.headline

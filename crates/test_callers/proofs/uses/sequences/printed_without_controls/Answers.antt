@@ -15,10 +15,10 @@ returns c =
     IfOk-weaker c.to_terminated_text.result _ _
     (λ text printed free.
     let table : TableValue = table_of_two c.args.header c.args.row in
-    let told : TerminatesLines table (string_bytes text) = subst (λ (t : TableValue). TerminatesLines t (string_bytes text)) (grind (arith, common_steps)) printed in
-    let drawn : IsTableDrawing table told.0 = told.1 in
-    let visible : map visible_text told.0 ≡ told.0 = drawn.sequences.without_sequences (c.tables_without_controls_have_no_escape.ensures table free) ∙ sym (drawn.edges.unstyled_lines refl refl) in
-    let none : All HasNoControl told.0 = subst (All HasNoControl) visible (All-map HasNoControl visible_text told.0 (drawn.controls.without_controls free)) in
-    let found = c.lines_are_found_in_their_texts.ensures.terminated told.0 (drawn.controls.without_breaks (record { indicator = refl; characters = refl })) in
-    subst (All HasNoControl) (sym (ap (slice_split (λ b. b == 0x0A)) told.2 ∙ found)) (All-append HasNoControl told.0 ([] ∷ []) none (All-cons HasNoControl [] [] ([], refl, tt) (All-nil HasNoControl))))
+    let ended : TerminatesLines table (string_bytes text) = subst (λ (t : TableValue). TerminatesLines t (string_bytes text)) (grind (arith, common_steps)) printed in
+    let drawn : IsTableDrawing table ended.0 = ended.1 in
+    let visible : map visible_text ended.0 ≡ ended.0 = drawn.sequences.without_sequences (c.tables_without_controls_have_no_escape.ensures table free) ∙ sym (drawn.edges.unstyled_lines refl refl) in
+    let none : All HasNoControl ended.0 = subst (All HasNoControl) visible (All-map HasNoControl visible_text ended.0 (drawn.controls.without_controls free)) in
+    let found = c.lines_are_found_in_their_texts.ensures.terminated ended.0 (drawn.controls.without_breaks (record { indicator = refl; characters = refl })) in
+    subst (All HasNoControl) (sym (ap (slice_split (λ b. b == 0x0A)) ended.2 ∙ found)) (All-append HasNoControl ended.0 ([] ∷ []) none (All-cons HasNoControl [] [] ([], refl, tt) (All-nil HasNoControl))))
     c.to_terminated_text.ensures

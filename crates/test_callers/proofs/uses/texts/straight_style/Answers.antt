@@ -6,4 +6,4 @@ pub returns-then-is_one_column : goal.returns-then-is_one_column
 returns-then-is_one_column c = c.if-is_one_column.ensures.adds refl
 
 pub returns-else-is_one_column : goal.returns-else-is_one_column
-returns-else-is_one_column c = (c.presets_have_columns_of_one.ensures 7 utf8_full (omega arith)).0
+returns-else-is_one_column c = (c.preset_characters_take_one_column.ensures 7 utf8_full (omega arith)).0

@@ -3,9 +3,9 @@ use Rattle.std.proofs.lemmas.Grind.{common_steps}
 use Rattle.std.specs.Prelude.{IsUtf8}
 use Rattle.comfy_parts.specs.Text.{Text}
 use Rattle.comfy_parts.specs.Wrapping.{wrapped}
-use Rattle.comfy_parts.specs.Cursor.{IsBehindGap, visible_ahead}
+use Rattle.comfy_parts.specs.Cursor.{IsAfterGap, visible_ahead}
 use Rattle.comfy_parts.specs.Written.{wrapped_positions, written_at}
-use Rattle.comfy_parts.proofs.CursorLemmas.{end-stands}
+use Rattle.comfy_parts.proofs.CursorLemmas.{end-same}
 use Rattle.comfy_parts.proofs.ListLemmas.{pushed}
 use Rattle.comfy_parts.proofs.WrittenLemmas.{next_line, written-none}
 use Rattle.comfy_parts.proofs.content_split.sequences.written.push_wrapped.Goals as goal
@@ -24,19 +24,19 @@ loop-line-preserved c =
     let new = c.take_line.new.self in
     let line = c.in-Some.line.now in
     let done = c.loop-line.lines.items in
-    let gap : IsBehindGap d old mid = c.in_ok-pass_gap.ensures in
+    let gap : IsAfterGap d old mid = c.in_ok-pass_gap.ensures in
     let lines = sym c.in-Some.ensures.steps ∙ c.loop-line.invariant.lines in
     let next = next_line w d old mid line c.next.new.self c.ranges.delimiter.0 c.loop-line.invariant.whole gap lines in
-    let stands = c.in_ok-take_line.ensures.stands in
+    let is_at = c.in_ok-take_line.ensures.is_at in
     let visible = c.in_ok-take_line.ensures.visible in
     let later = written_at new (wrapped_positions w d (visible_ahead new)) in
-    let one = next.written_is new stands visible ∙ ap (λ (t : Text). t ∷ later) (sym c.in_ok-take_line.ensures.written) in
+    let one = next.written_is new is_at visible ∙ ap (λ (t : Text). t ∷ later) (sym c.in_ok-take_line.ensures.written) in
     record {
       whole = subst IsUtf8 (sym visible) next.rest_whole;
       lines = next.lines ∙ ap (wrapped w d) (sym visible);
       written = pushed string_bytes done c.in_ok-take_line.field-0 c.push.new.self.items later _ c.in_ok-push.ensures.items
           (ap (λ (ts : List Text). map string_bytes done ++ ts) (sym one) ∙ c.loop-line.invariant.written);
-      stays = end-stands (length line) new mid stands ∙ end-stands (length gap.gap) mid old gap.stands ∙ c.loop-line.invariant.stays;
+      stays = end-same (length line) new mid is_at ∙ end-same (length gap.gap) mid old gap.is_at ∙ c.loop-line.invariant.stays;
     }
 
 pub returns-clause-lines : goal.returns-clause-lines

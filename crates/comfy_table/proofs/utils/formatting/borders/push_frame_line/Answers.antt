@@ -3,7 +3,7 @@ use Rattle.std.specs.List.{repeat}
 use Rattle.std.specs.Prelude.{encode_utf8, if◌then◌else◌}
 use Rattle.comfy_parts.specs.CellValue.{ColumnInfo, info_width}
 use Rattle.comfy_parts.specs.Text.{Text}
-use Rattle.comfy_table.proofs.FrameLemmas.{between_borders-behind}
+use Rattle.comfy_table.proofs.FrameLemmas.{between_borders-after}
 use Rattle.comfy_parts.proofs.CallerLemmas.{joined_all, joined_more}
 use Rattle.std.proofs.lemmas.Simd.{map-map}
 use Rattle.comfy_table.proofs.SpaceLemmas.{last-pushed}
@@ -42,7 +42,7 @@ returns c =
     let inside = joined_all fills (if vertical then character line.junction else []) columns c.loop-position.position (string_bytes c.push_border.new.text) (string_bytes c.loop-position.text) c.loop-position-test.false c.loop-position.invariant in
     last-pushed c.push_border-2.result (string_bytes c.push_border-2.new.text) (string_bytes c.loop-position.text) (if c.draws_right_border.result then character line.right else []) _
     (λ pushed.
-    between_borders-behind style line.left line.junction line.right fills columns
+    between_borders-after style line.left line.junction line.right fills columns
     c.draws_left_border.result vertical c.draws_right_border.result
     start (string_bytes c.push_border.new.text) (string_bytes c.loop-position.text) (string_bytes c.push_border-2.new.text)
     (c.draws_left_border.ensures ∙ of_table draws_left_border) (c.draws_vertical_lines-vertical.ensures ∙ of_table draws_vertical_lines) (c.draws_right_border.ensures ∙ of_table draws_right_border)

@@ -21,8 +21,8 @@ pub returns-clause-passed : goal.returns-clause-passed
 returns-clause-passed c _ =
     let d = c.args.delimiter in
     let rest = c.self.inside.rest.now in
-    let behind = c.in-Some.behind.now in
+    let after = c.in-Some.after.now in
     let free = none_ahead rest (ap (λ v. begins_with_sequence v.ahead) c.self.view_is ∙ c.requires) in
-    let splits = stripped d rest behind c.in-Some.ensures.cases in
+    let splits = stripped d rest after c.in-Some.ensures.cases in
     sym c.self.view_is
-    ∙ ap (at (map (λ s. s.now) c.self.inside.sequences.items)) (ap parts splits ∙ parts-character d behind (ap begins (sym splits) ∙ free))
+    ∙ ap (at (map (λ s. s.now) c.self.inside.sequences.items)) (ap parts splits ∙ parts-character d after (ap begins (sym splits) ∙ free))

@@ -1,9 +1,9 @@
 use Rattle.std.proofs.Common.{rules, false, ◌≡◌, ◌++◌, map, take, drop, ap, sym, subst, ◌∙◌}
 use Rattle.std.specs.Prelude.{IsUtf8, if◌then◌else◌}
 use Rattle.comfy_parts.specs.Text.{Text}
-use Rattle.comfy_parts.specs.Cursor.{CursorValue, behind_bytes, visible_ahead, begins_with_sequence, stepped, visible_part}
+use Rattle.comfy_parts.specs.Cursor.{CursorValue, past_bytes, visible_ahead, begins_with_sequence, stepped, visible_part}
 use Rattle.comfy_parts.specs.VisibleText.{parts}
-use Rattle.comfy_parts.proofs.CursorLemmas.{at, drops-behind, visible-behind, whole-behind}
+use Rattle.comfy_parts.proofs.CursorLemmas.{at, drops-after, visible-after, whole-after}
 use Rattle.comfy_parts.proofs.FrontLemmas.{visible_bytes-visible}
 use Rattle.comfy_parts.proofs.content_split.sequences.cursor.Cursor.pass_visible.Goals as goal
 
@@ -18,7 +18,7 @@ bytes-preserved c =
     let visible : visible_ahead c.bytes.self ≡ run ++ visible_ahead new = ap visible_ahead was ∙ visible_bytes-visible run new.ahead in
     let within = c.split_visible.ensures.within in
     record {
-      whole = whole-behind left run (visible_ahead new) c.split_visible.ensures.whole within (subst (λ (t : Text). IsUtf8 (take left t)) visible c.bytes.invariant.whole);
-      passed = sym (visible-behind left new.sequences run new.ahead within) ∙ ap (behind_bytes left) (sym was) ∙ c.bytes.invariant.passed;
-      visible = sym (drops-behind left run (visible_ahead new) within) ∙ ap (drop left) (sym visible) ∙ c.bytes.invariant.visible;
+      whole = whole-after left run (visible_ahead new) c.split_visible.ensures.whole within (subst (λ (t : Text). IsUtf8 (take left t)) visible c.bytes.invariant.whole);
+      passed = sym (visible-after left new.sequences run new.ahead within) ∙ ap (past_bytes left) (sym was) ∙ c.bytes.invariant.passed;
+      visible = sym (drops-after left run (visible_ahead new) within) ∙ ap (drop left) (sym visible) ∙ c.bytes.invariant.visible;
     }

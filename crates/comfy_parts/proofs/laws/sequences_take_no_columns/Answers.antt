@@ -1,6 +1,6 @@
 use Rattle.std.proofs.lemmas.List.Elements.{All-from_recursion}
 use Rattle.comfy_parts.proofs.VisibleLineLemmas.{visible_lines, lines_visible}
-use Rattle.comfy_parts.proofs.laws.sequences_count_nothing.Goals as goal
+use Rattle.comfy_parts.proofs.laws.sequences_take_no_columns.Goals as goal
 
 pub returns-clause-lines : goal.returns-clause-lines
 returns-clause-lines c = visible_lines

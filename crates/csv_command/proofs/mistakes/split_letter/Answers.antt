@@ -5,7 +5,7 @@ use Rattle.clap.proofs.LexerLemmas.{strip_byte-from}
 use Rattle.clap.specs.Lexer.{strip_byte}
 use Rattle.comfy_parts.specs.Text.{Text}
 use Rattle.csv_command.specs.Mistakes.{with_value}
-use Rattle.csv_command.proofs.mistakes.behind_letter.Goals as goal
+use Rattle.csv_command.proofs.mistakes.split_letter.Goals as goal
 
 pub returns-in-None-None-None-None : goal.returns-in-None-None-None-None
 returns-in-None-None-None-None c =

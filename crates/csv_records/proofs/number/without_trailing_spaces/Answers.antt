@@ -2,7 +2,7 @@ use Rattle.std.proofs.Common.{◌≡◌, ap, chars, encode_utf8_all, false, subs
 use Rattle.std.proofs.lemmas.Str.{encodes-chars}
 use Rattle.csv_records.specs.Number.{is_space, to_other}
 use Rattle.csv_records.proofs.FigureLemmas.{to_other-passes, to_other-stops, utf8-without_last}
-use Rattle.csv_records.proofs.number.without_spaces_behind.Goals as goal
+use Rattle.csv_records.proofs.number.without_trailing_spaces.Goals as goal
 
 pub returns-then-not-is_space : goal.returns-then-not-is_space
 returns-then-not-is_space c =

@@ -1,7 +1,7 @@
 use Rattle.std.proofs.Common.{◌≡◌, ◌-◌, ◌∙◌, ap, ap₂, false, refl, sym, true}
 use Rattle.csv_records.specs.Decimals.{digits_in, fraction_len}
 use Rattle.csv_records.specs.Number.{figure_of, halves, is_bare_neutral, is_neutral}
-use Rattle.csv_records.proofs.decimals.Points.spaces_behind.Goals as goal
+use Rattle.csv_records.proofs.decimals.Points.trailing_spaces.Goals as goal
 
 pub returns-then-is_bare_neutral : goal.returns-then-is_bare_neutral
 unfolding is_neutral

@@ -1,10 +1,10 @@
 use Rattle.std.proofs.Common.{Option, subst}
 use Rattle.std.specs.Prelude.{IfSome}
-use Rattle.comfy_parts.specs.Following.{IsMeasuredBehind}
+use Rattle.comfy_parts.specs.Following.{IsMeasuredAtEnd}
 use Rattle.comfy_parts.specs.declared.content_split.ends.Measured.{Measured}
 use Rattle.comfy_parts.proofs.WideEndLemmas.{exact-columns, none-wider}
 use Rattle.comfy_parts.proofs.MeasuredLineLemmas.{at-first, at-measured}
-use Rattle.comfy_parts.proofs.content_split.lines.lines_behind.Goals as goal
+use Rattle.comfy_parts.proofs.content_split.lines.lines_after.Goals as goal
 
 pub lines_from-requires : goal.lines_from-requires
 lines_from-requires c =
@@ -12,7 +12,7 @@ lines_from-requires c =
     let (start, begun) = c.line_start-rest.ensures.ends in
     record {
       at = at-measured c.args.width c.args.delimiter c.args.text.now start c.line_start-rest.result.now m.left m.first m.columns c.requires.narrow c.line_start-rest.utf8 c.line_start-rest.ensures.begins begun
-          (subst (λ (o : Option Measured). IfSome o (λ m. IsMeasuredBehind c.args.delimiter c.args.text.now m.left m.first m.columns)) c.in-Some.is c.requires.measured) c.if-next-rest.true;
+          (subst (λ (o : Option Measured). IfSome o (λ m. IsMeasuredAtEnd c.args.delimiter c.args.text.now m.left m.first m.columns)) c.in-Some.is c.requires.measured) c.if-next-rest.true;
     }
 
 pub lines_from-requires-then-rest-width : goal.lines_from-requires-then-rest-width
