@@ -20,7 +20,7 @@ const widths = new Map();
 
 // Asks a worker for csvtable's drawing or message, so that the page stays usable in the meantime. A new call ends the call before
 // it.
-function asked(blob, words) {
+function answer_of(blob, words) {
   if (stop) stop();
   worker ??= new Worker(URL.createObjectURL(new Blob([of("library").textContent, of("worker").textContent])));
   return new Promise((answer) => {
@@ -34,7 +34,7 @@ function asked(blob, words) {
       answer(data);
     };
     worker.onerror = (event) => {
-      of("said").textContent = `The drawing ended: ${event.message}`;
+      of("reported").textContent = `The drawing ended: ${event.message}`;
       stop();
     };
     worker.postMessage({ module, input: blob, words });
@@ -65,8 +65,8 @@ function argumentsNow() {
 
 async function draw() {
   const began = performance.now();
-  of("said").textContent = "Drawing";
-  const answer = await asked(input, argumentsNow());
+  of("reported").textContent = "Drawing";
+  const answer = await answer_of(input, argumentsNow());
   if (answer.isOld) return;
   drawn = answer;
   const lines = drawn.starts.length - 1;
@@ -75,7 +75,7 @@ async function draw() {
   show();
   const count = `${lines.toLocaleString("en")} lines in ${Math.round(performance.now() - began)} ms`;
   const left = lines > MOST_LINES ? `, of which the first ${MOST_LINES.toLocaleString("en")} are shown and all are copied` : "";
-  of("said").textContent = `${name ?? "CSV"}: ${drawn.result === DRAWN ? count + left : "no table"}`;
+  of("reported").textContent = `${name ?? "CSV"}: ${drawn.result === DRAWN ? count + left : "no table"}`;
 }
 
 // ---- showing lines
@@ -184,9 +184,9 @@ async function copy() {
   const all = new TextDecoder().decode(drawn.bytes);
   try {
     await navigator.clipboard.writeText(all);
-    of("said").textContent = `${all.length.toLocaleString("en")} characters are copied`;
+    of("reported").textContent = `${all.length.toLocaleString("en")} characters are copied`;
   } catch (error) {
-    of("said").textContent = `Nothing is copied: ${error.message}`;
+    of("reported").textContent = `Nothing is copied: ${error.message}`;
   }
 }
 
@@ -234,5 +234,5 @@ async function start() {
 }
 
 start().catch((error) => {
-  of("said").textContent = `This browser can't run the page: ${error.message}`;
+  of("reported").textContent = `This browser can't run the page: ${error.message}`;
 });

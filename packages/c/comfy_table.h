@@ -133,11 +133,11 @@ struct comfy_content_line {
  * row_separator between two rows. header_lines and content_lines are the lines of texts in the header and in rows.
  *
  * Each of the four horizontal lines is drawn if it has a character. Each of the three vertical borders, at the left, between
- * columns and at the right, is drawn if at least one of the six lines has a character for it. A space is drawn for a missing
- * character.
+ * columns and at the right, is drawn if at least one of the six lines has a character for it. In a line or border that is drawn, a
+ * missing character is a space.
  *
- * The promises on the lines of rows hold for such a frame on two conditions. Each of its characters takes one terminal column.
- * None of them is a control character, or changes the direction of text.
+ * The promises on rows hold for such a frame if none of its characters is a control character or changes the direction of text.
+ * Those on edges and widths also need that each of its characters takes one terminal column.
  */
 struct comfy_frame {
     struct comfy_line top_border;
@@ -185,6 +185,7 @@ enum {
     COMFY_WHITE
 };
 
+/* A colour. red, green and blue count only for COMFY_COLOR_BY_PARTS. */
 struct comfy_color {
     uint8_t kind;   /* COMFY_COLOR_.. */
     uint8_t number; /* for COMFY_COLOR_NUMBERED: its number */
@@ -250,8 +251,8 @@ enum { COMFY_EXPANDED_NEVER, COMFY_EXPANDED_AUTO, COMFY_EXPANDED_ALWAYS };
 enum { COMFY_COLUMN_BY_CONTENTS, COMFY_COLUMN_LEFT, COMFY_COLUMN_RIGHT, COMFY_COLUMN_HIDDEN, COMFY_COLUMN_CENTER };
 
 /*
- * A column of rows. Widths are in terminal columns, without paddings. A width of 0 means no limit. Texts that are wider than the
- * greatest width are wrapped. If the greatest width is below the least width, the least width counts.
+ * A column of a table of rows. Widths are in terminal columns, without paddings. A width of 0 means no limit. Texts that are wider
+ * than the greatest width are wrapped. If the greatest width is below the least width, the least width counts.
  *
  * COMFY_PLAIN_COLUMN is a column whose settings are unset. Its paddings are 1.
  */
@@ -272,7 +273,7 @@ struct comfy_rows_settings {
     size_t limit;             /* the most rows to draw below the header; 0 draws none; or COMFY_NO_LIMIT */
     uint32_t style;           /* a preset, COMFY_ROUNDED or COMFY_OWN_STYLE; 0 is COMFY_ASCII_FULL */
     uint32_t width;           /* the table's greatest width in terminal columns, or COMFY_NO_WIDTH; 0 gives the narrowest table */
-    uint32_t fills_width;     /* a flag: the table is exactly as wide as width */
+    uint32_t fills_width;     /* a flag: a narrower table is widened to width; no effect with COMFY_NO_WIDTH */
     uint32_t row_lines;       /* COMFY_LINES_..; 0 draws lines between all rows */
     uint32_t expansion;       /* COMFY_EXPANDED_..; 0 expands no row */
     uint32_t has_header;      /* a flag: the first row is the header */
@@ -280,7 +281,7 @@ struct comfy_rows_settings {
     uint32_t is_numbered;     /* a flag: a column before the others has the numbers of the rows */
     uint32_t aligns_decimals; /* a flag: in a column of numbers, decimal points are below each other */
     uint32_t has_sequences;   /* a flag: sequences of colours and attributes (SGR) in texts are kept, and take no columns */
-    uint32_t is_markdown;     /* a flag: the table is for Markdown, whatever the other fields are */
+    uint32_t is_markdown;     /* a flag: the table is for Markdown; style, width and max_height have no effect */
     struct comfy_frame frame; /* the frame that COMFY_OWN_STYLE draws; any other style ignores it */
 };
 
@@ -292,9 +293,9 @@ struct comfy_rows_settings {
      1, 0, 0, 1, 0, 0, COMFY_NO_FRAME}
 
 /*
- * Draws a table of rows into the caller's buffer. csvtable with the option --count draws records of these texts into a pipe in the
- * same way. There is one difference: lines with a count have the word "row". Above an expanded row there is, for example, "row 2
- * of 3". If limit leaves out rows, "2 of 3 rows" is below the table.
+ * Draws a table of rows into the caller's buffer. The program csvtable writes the same table into a pipe, with the option --count,
+ * if its records consist of these texts. Only lines with a count differ, because they have the word "row". Above an expanded row
+ * there is, for example, "row 2 of 3". If limit leaves out rows, "2 of 3 rows" is below the table.
  *
  * texts has the texts of all cells in order, without anything between them. lengths has the length of each text in bytes. counts
  * has the number of cells of each row. Rows may have different numbers of cells. columns has a struct for each column, or for the
@@ -351,37 +352,41 @@ uint32_t comfy_rows_refused(const struct comfy_look *looks, size_t looks_length,
 
 /* ---- cells with their own settings */
 
-/* In the structs below, 0 means that a setting isn't set. Only widths and paddings are 0 terminal columns then. */
+/* In the structs below, 0 means that a setting isn't set. A width or a padding of 0 means 0 terminal columns. */
 
+/* A cell of a table of cells: the length of its text, and its settings. */
 struct comfy_cell {
     size_t length;       /* the number of bytes of the text; line feeds separate its lines */
     uint32_t delimiter;  /* the character at which long lines may break; 0 means that of the column */
     struct comfy_look look;
 };
 
+/* A row of a table of cells: the number of its cells, and its greatest height. */
 struct comfy_row {
     size_t cells;      /* the number of cells */
     size_t max_height; /* the most lines that are drawn; 0 and COMFY_NO_LIMIT mean no limit */
 };
 
 /*
- * The constraint on a column's width. The width includes the paddings. Any other number means COMFY_CONSTRAINT_NONE.
+ * The constraint on a column's width, which includes its paddings. A number that isn't in this list means COMFY_CONSTRAINT_NONE.
  */
 enum {
     COMFY_CONSTRAINT_NONE,
     COMFY_CONSTRAINT_HIDDEN,         /* the column isn't drawn */
-    COMFY_CONSTRAINT_CONTENT_WIDTH,  /* it is as wide as its widest text */
+    COMFY_CONSTRAINT_CONTENT_WIDTH,  /* it is as wide as its widest text and its paddings */
     COMFY_CONSTRAINT_ABSOLUTE,       /* it has a given width */
     COMFY_CONSTRAINT_LOWER_BOUNDARY, /* it has at least a given width */
     COMFY_CONSTRAINT_UPPER_BOUNDARY, /* it has at most a given width */
     COMFY_CONSTRAINT_BOUNDARIES      /* it has a least and a greatest width */
 };
 
+/* A width in a constraint. If the table has no width, a percentage constrains nothing. */
 struct comfy_width {
     uint16_t is_percentage; /* a flag: value is a percentage of the table's width without borders; 0 means terminal columns */
     uint16_t value;
 };
 
+/* A column of a table of cells. */
 struct comfy_column {
     uint16_t left_padding;    /* the number of free terminal columns at the left of texts */
     uint16_t right_padding;   /* the number of free terminal columns at the right of texts */
@@ -460,8 +465,8 @@ uint32_t comfy_cells_refused(const struct comfy_cells_settings *settings);
  * string "-r\0price\0-w\0" "60" and its size. Then the column price is right-aligned, and the greatest width of the table is 60
  * terminal columns. If arguments_length is 0, there are no arguments.
  *
- * No file is opened. A file name among the arguments names the input in messages. If it ends with .tsv or .tab, TABs may separate
- * fields.
+ * No file is opened. A file name among the arguments names the input in messages. If it ends with .tsv or .tab, and no argument
+ * sets a delimiter, TABs separate fields, unless the first line is sep= with another delimiter.
  *
  * With COMFY_INPUT_REFUSED and COMFY_SETTINGS_REFUSED, *needed is the length of csvtable's message in bytes. If output has room
  * for the whole message, it is written there. Otherwise output is unchanged. --help gives COMFY_SETTINGS_REFUSED too, with the

@@ -10,11 +10,11 @@ failed=
 for crate in $(awk -F '[ :]' -v on="$1" '/^[a-z]/ { for (i = 1; i <= NF; i++) if ($i == on || $i in above) { above[$1]; print $1; next } }' crates.txt); do
     if [ -n "$failed" ]; then echo "$crate: not checked"; continue; fi
     start=$(date +%s)
-    if said=$(cd "crates/$crate" && rt check 2>&1 </dev/null); then
+    if reported=$(cd "crates/$crate" && rt check 2>&1 </dev/null); then
         echo "$crate: proved, $(($(date +%s) - start)) seconds"
     else
         failed=$crate
-        printf '%s\n%s: not proved\n' "$(printf '%s' "$said" | tail -n 40)" "$crate"
+        printf '%s\n%s: not proved\n' "$(printf '%s' "$reported" | tail -n 40)" "$crate"
     fi
 done
 [ -z "$failed" ]

@@ -44,7 +44,7 @@ from pages import dead_links
 from pictures import wrong_pictures
 
 LAWS_ALONE = ["cluster_width"]  # libraries without code
-LAWS_ELSEWHERE = {("comfy_parts", "presets_are_as_tabled")}  # laws outside of a module `laws`; they need no trial
+LAWS_ELSEWHERE = {("comfy_parts", "presets_are_as_defined")}  # laws outside of a module `laws`; they need no trial
 LAWS_IN_PROSE = ["cluster_width", "promises"]  # crates whose laws PROVED names outside of its tables
 COUNTS = "no one two three four five six seven eight nine ten eleven twelve".split()
 CALLERS = ["test_callers", "csv_promises"]

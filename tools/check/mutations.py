@@ -223,7 +223,7 @@ def is_stale(mutation, lines, is_alone):
     return bool(errors) and all(re.search(STALE, it) for it in errors)
 
 
-def said_of(mutation, state, check, is_alone):
+def report_of(mutation, state, check, is_alone):
     """The result of a mutation, or None if another check has to try it."""
     lines, unread, is_proved = check
     if unread:
@@ -250,11 +250,11 @@ def tried(crate, waiting, jobs):
             states = states_of(check[0], calls)
             for it in batch:
                 state = state_of(it, states)
-                said = said_of(it, state, check, len(batch) == 1)
-                if said:
+                reported = report_of(it, state, check, len(batch) == 1)
+                if reported:
                     waiting.remove(it)
-                    found.append(said)
-                    print(f"{it.label}: {said}", flush=True)
+                    found.append(reported)
+                    print(f"{it.label}: {reported}", flush=True)
                 elif check[1] or state.startswith("proved"):
                     it.is_alone = True
                 else:

@@ -86,8 +86,8 @@ def main():
     joining = re.findall(r"\(0x(\w+), 0x(\w+)\)", (folder / "../../specs/Columns.antt").read_text())
     index, words, tail = packed(list(own_widths(kinds(source), joining)))
     parts = [
-        "//! The columns of each character that joins no other, and 3 of each that joins others.\n"
-        "//! tools/make/own_widths.py writes this.\n",
+        "//! The width in terminal columns of each character that joins no other. The entry 3 marks a\n"
+        "//! character that joins others. `tools/make/own_widths.py` writes this file.\n",
         table("INDEX", "u8", 2, 16, index),
         table("WORDS", "u64", 16, 4, words),
         table("TAIL", "u32", 8, 8, tail),

@@ -11,8 +11,8 @@ compare() {
   shift 3
   first=
   for program in "$@"; do
-    valgrind --tool=callgrind --callgrind-out-file="$work/counts" "$program" $words < "$input" > "$work/drawn" 2> "$work/said"
-    count=$(sed -n 's/.*Collected : //p' "$work/said")
+    valgrind --tool=callgrind --callgrind-out-file="$work/counts" "$program" $words < "$input" > "$work/drawn" 2> "$work/reported"
+    count=$(sed -n 's/.*Collected : //p' "$work/reported")
     [ "$first" ] || cp "$work/drawn" "$work/first"
     first=${first:-$count}
     cmp "$work/drawn" "$work/first"

@@ -19,7 +19,7 @@ trap 'rm -rf "$work"' EXIT
 timed() {
   file=$1
   shift
-  /usr/bin/time -f '%U %S %M' -o "$work/time" "$@" < "$file" > /dev/null 2> "$work/said"
+  /usr/bin/time -f '%U %S %M' -o "$work/time" "$@" < "$file" > /dev/null 2> "$work/reported"
   awk -v name="$1" -v count="$count" '{ printf "  %s: %s%.2f seconds, %.0f MB\n", name, count, $1 + $2, $3 / 1000 }' "$work/time"
 }
 
@@ -27,8 +27,8 @@ timed() {
 measured() {
   file=$1
   shift
-  valgrind --tool=callgrind --callgrind-out-file="$work/counts" "$@" < "$file" > /dev/null 2> "$work/said"
-  count=$(sed -n 's/.*Collected : //p' "$work/said" | awk '{ printf "%.0f million instructions, ", $1 / 1e6 }')
+  valgrind --tool=callgrind --callgrind-out-file="$work/counts" "$@" < "$file" > /dev/null 2> "$work/reported"
+  count=$(sed -n 's/.*Collected : //p' "$work/reported" | awk '{ printf "%.0f million instructions, ", $1 / 1e6 }')
   timed "$file" "$@"
 }
 

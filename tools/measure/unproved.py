@@ -83,9 +83,9 @@ def main():
     with tempfile.TemporaryDirectory() as at:
         kit = copied_kit(at)
         tried = [sys.executable, f"{kit}/bin/rt", "try", "--", "--help"]
-        said = subprocess.run(tried, cwd=crate, stdin=subprocess.DEVNULL, capture_output=True, text=True)
+        reported = subprocess.run(tried, cwd=crate, stdin=subprocess.DEVNULL, capture_output=True, text=True)
         if not os.path.exists(f"{at}/module.bc"):
-            sys.exit(said.stdout + said.stderr)
+            sys.exit(reported.stdout + reported.stderr)
         read = ["-x", "ir", "module.bc", "-S", "-emit-llvm", "-O0", "-Xclang", "-disable-llvm-passes", "-o", "module.ll"]
         subprocess.check_call([CLANG, *read], cwd=at)
         hints = {}

@@ -27,7 +27,7 @@ NAMES = ("chromium", "chromium-browser", "google-chrome")
 # A function that draws by the page's own worker. It takes the input in base64, and the arguments.
 DRAW = """async (input, words) => {
   const bytes = Uint8Array.from(atob(input), (it) => it.charCodeAt(0));
-  const answer = await asked(new Blob([bytes]), words);
+  const answer = await answer_of(new Blob([bytes]), words);
   if (!answer.bytes) return JSON.stringify(answer);
   let text = "";
   for (let at = 0; at < answer.bytes.length; at += 8192) text += String.fromCharCode(...answer.bytes.subarray(at, at + 8192));
@@ -116,7 +116,7 @@ class Page:
 
     def shown(self):
         """The lines on the page, after the drawing that was requested last."""
-        self.wait("!stop && document.getElementById('said').textContent !== 'Drawing'")
+        self.wait("!stop && document.getElementById('reported').textContent !== 'Drawing'")
         return self.value('[...document.querySelectorAll("#lines > div")].map((it) => it.textContent).join("\\n") + "\\n"')
 
     def picture(self, file, scheme):
@@ -264,8 +264,8 @@ def try_large(page, program):
       return longest;
     })()""")
     page.shown()
-    said = page.value("document.getElementById('said').textContent")
-    check(longest < 1000, f"{len(text):,} bytes: {said}; the page waits {longest:.0f} ms at most")
+    reported = page.value("document.getElementById('reported').textContent")
+    check(longest < 1000, f"{len(text):,} bytes: {reported}; the page waits {longest:.0f} ms at most")
     wanted = written_by(program, [], text.encode()).decode().split("\n")[:-1]
     for share in (0.5, 1):
         page.value(f"of('view').scrollTop = {share} * (of('view').scrollHeight - of('view').clientHeight); showMore()")
@@ -278,9 +278,9 @@ def try_large(page, program):
 
 def try_privacy(page):
     """The page must have requested nothing but itself and its worker. A request to a server must be refused."""
-    asked = {it["params"]["request"]["url"] for it in page.events if it.get("method") == "Network.requestWillBeSent"}
-    others = [it for it in asked if not it.startswith(("file:", "blob:"))]
-    same(others, [], f"the page asked for nothing but itself and its worker ({len(asked)} addresses)")
+    addresses = {it["params"]["request"]["url"] for it in page.events if it.get("method") == "Network.requestWillBeSent"}
+    others = [it for it in addresses if not it.startswith(("file:", "blob:"))]
+    same(others, [], f"the page requests nothing but itself and its worker ({len(addresses)} addresses)")
     blocked = """async (address) => {
       const seen = new Promise((done) => document.addEventListener("securitypolicyviolation", (it) => done(it.effectiveDirective)));
       fetch(address).catch(() => {});

@@ -126,7 +126,7 @@ chmod 000 "$work/closed"
 [ -r "$work/closed" ] || refused 'a file that may not be read' "$work/closed: permission denied" "$work/closed"
 refused 'a column that is not there' "standard input: no column '09'; there are 'a' and 'b'" -c 09
 refused 'all columns left out' 'standard input: no column is left' --drop 1-
-refused 'a column at two sides' "standard input: column 'b' can't stand at the right and at the left" -r b --left 2
+refused 'a column at two sides' "standard input: column 'b' can't be aligned both left and right" -r b --left 2
 printf 'a,b\nx,\377\n' > "$work/input"
 refused 'a line that is not UTF-8' "standard input: line 2 isn't UTF-8; try -e cp1252, or iconv -f ENCODING FILE | csvtable"
 refused 'such a line in a file' "$work/input: line 2 isn't UTF-8; try -e cp1252, or iconv -f ENCODING FILE | csvtable" "$work/input"

@@ -52,7 +52,7 @@ try() {
     # Windows has no mmap.
     case $system-$test in Windows-cells | Windows-random_calls) continue ;; esac
     $compiler -O1 -I packages/c "$tests/$test.c" "$@" $words -o "$work/$test.exe"
-    $run "$work/$test.exe" > "$work/said" || { cat "$work/said"; echo "$system: $test fails" >&2; exit 1; }
+    $run "$work/$test.exe" > "$work/reported" || { cat "$work/reported"; echo "$system: $test fails" >&2; exit 1; }
   done
   echo "$system passes the tests for C"
 }

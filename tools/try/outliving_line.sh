@@ -39,19 +39,19 @@ fn main(rt: HostRuntime) -> io::Result<()> {
     Ok(())
 }
 END
-  (cd "$work/crates/line" && rt try < /dev/null > "$work/said" 2>&1)
+  (cd "$work/crates/line" && rt try < /dev/null > "$work/reported" 2>&1)
 }
 
 try '' 'drop(text);'
-if [ "$(grep '^line ' "$work/said" | tr '\n' ' ')" != 'line ab line cd ' ]; then
+if [ "$(grep '^line ' "$work/reported" | tr '\n' ' ')" != 'line ab line cd ' ]; then
   echo "$0: a line that ends before its text wasn't printed" >&2
-  cat "$work/said" >&2
+  cat "$work/reported" >&2
   exit 1
 fi
 try 'drop(text);' ''
-if ! grep -q 'error\[borrow-e0505\].*`text`' "$work/said"; then
+if ! grep -q 'error\[borrow-e0505\].*`text`' "$work/reported"; then
   echo "$0: a line that outlives its text wasn't refused" >&2
-  cat "$work/said" >&2
+  cat "$work/reported" >&2
   exit 1
 fi
-grep 'error\[' "$work/said"
+grep 'error\[' "$work/reported"

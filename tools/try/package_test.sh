@@ -39,8 +39,8 @@ compare_csv() {
     '--no-quotes --ansi -s NOTHING' '-w 65535 --full -d ;' '-c nothing' '--rows --no-rows' '-w wide' '-d ab' '--odd' '--help'; do
     for input in "$work"/csv/*; do
       name=$(basename "$input")
-      (cd "$work/csv" && "$CSVTABLE" $arguments "$name") > "$work/wanted" 2> "$work/said" || cat "$work/said" >> "$work/wanted"
-      "$@" $arguments "$name" < "$input" > "$work/drawn" 2> "$work/said" || cat "$work/said" >> "$work/drawn"
+      (cd "$work/csv" && "$CSVTABLE" $arguments "$name") > "$work/wanted" 2> "$work/reported" || cat "$work/reported" >> "$work/wanted"
+      "$@" $arguments "$name" < "$input" > "$work/drawn" 2> "$work/reported" || cat "$work/reported" >> "$work/drawn"
       cmp "$work/wanted" "$work/drawn"
     done
   done
@@ -141,11 +141,11 @@ try_refusals() {
   refused() { # WORDS COMMAND..
     words=$1
     shift
-    if (cd "$work/crate" && "$@" --offline) > "$work/said" 2>&1; then
+    if (cd "$work/crate" && "$@" --offline) > "$work/reported" 2>&1; then
       echo "$*: no error" >&2
       return 1
     fi
-    grep -qF "$words" "$work/said"
+    grep -qF "$words" "$work/reported"
   }
   refused "this build is for riscv64gc-unknown-linux-gnu" cargo check --target riscv64gc-unknown-linux-gnu
   refused "no libcomfy_c.a in $work/csv;" env COMFY_C="$work/csv" cargo build

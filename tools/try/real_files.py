@@ -55,8 +55,8 @@ WHOLE = re.compile(r"\(?[-+]?[$€£]?\d[\d,.]*(e[-+]?\d+)?\s?[%€$]?\)?|[-/:.T
 class Run:
     """A file, the arguments for drawing it, and the expected status, texts in the output, and message."""
 
-    def __init__(self, name, text, arguments="", status=0, drawn=(), said="", encoding="utf-8", delimiter=","):
-        self.name, self.arguments, self.status, self.drawn, self.said = name, arguments.split(), status, drawn, said
+    def __init__(self, name, text, arguments="", status=0, drawn=(), reported="", encoding="utf-8", delimiter=","):
+        self.name, self.arguments, self.status, self.drawn, self.reported = name, arguments.split(), status, drawn, reported
         self.bytes = text if isinstance(text, bytes) else text.encode(encoding)
         self.encoding, self.delimiter = encoding, delimiter
 
@@ -66,19 +66,19 @@ RUNS = [
     Run("wide.csv", WIDE, "-c column_2-column_4 --drop 3", drawn=["│ column_2 ┆ column_4 │"]),
     Run("zeros.csv", "order,zip\n000042,01067\n000043,80331\n", drawn=["│ 000042 ┆ 01067 │"]),
     Run("long.csv", LONG, drawn=["│ id ┆"]),
-    Run("bank.csv", BANK, "", 1, said="bank.csv: line 2 isn't UTF-8; try -e cp1252, or iconv -f ENCODING FILE | csvtable", encoding="latin-1", delimiter=";"),
+    Run("bank.csv", BANK, "", 1, reported="bank.csv: line 2 isn't UTF-8; try -e cp1252, or iconv -f ENCODING FILE | csvtable", encoding="latin-1", delimiter=";"),
     Run("bank.csv", BANK, "-e cp1252", drawn=["│ 02.05.2026  ┆ Bäckerei Müller  ┆   -84,50 │"], encoding="latin-1", delimiter=";"),
-    Run("bank.csv", BANK, "-e utf-8", 1, said="bank.csv: line 2 isn't UTF-8\n", encoding="latin-1", delimiter=";"),
+    Run("bank.csv", BANK, "-e utf-8", 1, reported="bank.csv: line 2 isn't UTF-8\n", encoding="latin-1", delimiter=";"),
     Run("bank8.csv", BANK, drawn=["│ 13.05.2026  ┆ Gehalt           ┆ 2.500,00 │"], delimiter=";"),
     Run("dates.csv", "day,time,host,version\n02.05.2026,07:49,192.168.0.1,1.2.3\n", drawn=["│ 02.05.2026 ┆ 07:49 ┆ 192.168.0.1 ┆ 1.2.3   │"]),
     Run("tabs.tsv", TSV, drawn=['│ screw 5" ┆ 5" long │'], delimiter="\t"),
     Run("mixed.csv", MIXED, drawn=["│ refund ┆ ($3.00) ┆                  n/a │"]),
-    Run("ragged.csv", "a,b\n1\n1,2,3\n", drawn=["│ 1 ┆ 2 ┆ 3 │"], said="ragged.csv: line 3 has 3 fields, the header has 2\n"),
-    Run("quote.csv", 'a,b\n1,"open\n2,3\n', "", 1, said="quote.csv: a quote that opens in line 2 is never closed; try --no-quotes"),
+    Run("ragged.csv", "a,b\n1\n1,2,3\n", drawn=["│ 1 ┆ 2 ┆ 3 │"], reported="ragged.csv: line 3 has 3 fields, the header has 2\n"),
+    Run("quote.csv", 'a,b\n1,"open\n2,3\n', "", 1, reported="quote.csv: a quote that opens in line 2 is never closed; try --no-quotes"),
     Run("quote.csv", 'a,b\n1,"open\n2,3\n', "--no-quotes", drawn=['│ 1 ┆ "open │', "│ 2 ┆ 3     │"]),
     Run("empty.csv", "", drawn=[""]),
     Run("utf16.csv", "\ufeff" + BANK, drawn=["Bäckerei Müller"], encoding="utf-16-le", delimiter=";"),
-    Run("utf16.csv", b"\xff\xfea\x00\n\x00\x00\xd8", "", 1, said="utf16.csv: line 2 isn't UTF-16"),
+    Run("utf16.csv", b"\xff\xfea\x00\n\x00\x00\xd8", "", 1, reported="utf16.csv: line 2 isn't UTF-16"),
     Run("mark.csv", "\ufeffid,name\r\n1,Ann\r\n2,Bob\r\n", drawn=["│ id ┆ name │", "│  1 ┆ Ann  │"]),
     Run("json.csv", 'id,data\n1,"{""a"": [1, 2], ""b"": null}"\n', drawn=['{"a": [1, 2], "b": null}']),
     Run("scripts.csv", SCRIPTS, drawn=["王小明", "محمد"]),
@@ -87,21 +87,21 @@ RUNS = [
     Run("sep.csv", "sep=;\na;b\n1;2\n", drawn=["│ a ┆ b │", "│ 1 ┆ 2 │"], delimiter=";"),
     Run("sep.csv", "sep=;\na;b\n1;2\n", "-d ,", drawn=["│ sep=; │"], delimiter=";"),
     Run("preamble.csv", PREAMBLE, "--skip 3", drawn=["│ date       ┆  amount │"]),
-    Run("preamble.csv", PREAMBLE, "--skip 3 -r amount --drop nothing", 1, said="preamble.csv: no column 'nothing'; there are 'date' and 'amount'"),
+    Run("preamble.csv", PREAMBLE, "--skip 3 -r amount --drop nothing", 1, reported="preamble.csv: no column 'nothing'; there are 'date' and 'amount'"),
 ]
 
 # Files that aren't text, or aren't in the expected encoding, and the arguments that help with each. --compare doesn't use them.
 ADVISED = [
-    Run("bare.csv", BANK, "", 1, said="bare.csv: looks like UTF-16; try -e utf-16\n", encoding="utf-16-le", delimiter=";"),
+    Run("bare.csv", BANK, "", 1, reported="bare.csv: looks like UTF-16; try -e utf-16\n", encoding="utf-16-le", delimiter=";"),
     Run("bare.csv", BANK, "-e utf-16", drawn=["Bäckerei Müller"], encoding="utf-16-le", delimiter=";"),
-    Run("bare.csv", BANK, "--skip 1", 1, said="bare.csv: looks like UTF-16; try -e utf-16\n", encoding="utf-16-le", delimiter=";"),
-    Run("bank.csv.gz", gzip.compress(BANK.encode()), "", 1, said="bank.csv.gz: compressed by gzip; try zcat FILE | csvtable\n"),
-    Run("bank.xlsx", b"PK\3\4" + BANK.encode(), "", 1, said="bank.xlsx: a zip archive; try unzip -p FILE | csvtable, or save a spreadsheet as CSV\n"),
-    Run("nul.csv", "a,b\n1,\0\n", "", 1, said="nul.csv: line 2 has a NUL byte, so this isn't text; -e utf-8 reads it anyway\n"),
+    Run("bare.csv", BANK, "--skip 1", 1, reported="bare.csv: looks like UTF-16; try -e utf-16\n", encoding="utf-16-le", delimiter=";"),
+    Run("bank.csv.gz", gzip.compress(BANK.encode()), "", 1, reported="bank.csv.gz: compressed by gzip; try zcat FILE | csvtable\n"),
+    Run("bank.xlsx", b"PK\3\4" + BANK.encode(), "", 1, reported="bank.xlsx: a zip archive; try unzip -p FILE | csvtable, or save a spreadsheet as CSV\n"),
+    Run("nul.csv", "a,b\n1,\0\n", "", 1, reported="nul.csv: line 2 has a NUL byte, so this isn't text; -e utf-8 reads it anyway\n"),
     Run("nul.csv", "a,b\n1,\0\n", "-e utf-8", drawn=["│ 1 ┆ \ufffd │"]),
-    Run("octets.csv", b"a,b\n\x81,\xe4\n", "", 1, said="octets.csv: line 2 isn't UTF-8; try iconv -f ENCODING FILE | csvtable\n"),
+    Run("octets.csv", b"a,b\n\x81,\xe4\n", "", 1, reported="octets.csv: line 2 isn't UTF-8; try iconv -f ENCODING FILE | csvtable\n"),
     Run("junk.csv", b"\xff\0\n" + PREAMBLE.encode(), "--skip 4", drawn=["│ date       ┆  amount │"]),
-    Run("junk.csv", b"\xff\n" + b"a,b\n\xe4\n", "--skip 1", 1, said="junk.csv: line 3 isn't UTF-8; try -e cp1252, or iconv -f ENCODING FILE | csvtable\n"),
+    Run("junk.csv", b"\xff\n" + b"a,b\n\xe4\n", "--skip 1", 1, reported="junk.csv: line 3 isn't UTF-8; try -e cp1252, or iconv -f ENCODING FILE | csvtable\n"),
 ]
 
 # The messages for files that can't be read.
@@ -193,7 +193,7 @@ def fault_of(run, result):
     out, err = result.stdout.decode(errors="replace"), result.stderr.decode(errors="replace")
     if result.returncode != run.status:
         return f"status {result.returncode}: {err.strip()}"
-    message = "csvtable: " + run.said + ("" if run.said.endswith("\n") else "\n") if run.said else ""
+    message = "csvtable: " + run.reported + ("" if run.reported.endswith("\n") else "\n") if run.reported else ""
     if err != message or (run.status and out):
         return f"its message is {err!r}"
     if run.status:
@@ -331,7 +331,7 @@ SUITING = {
 }
 
 
-def said_in(result):
+def report_in(result):
     """The first line of an error, or the last line of one of Python, without the program's name."""
     lines = result.stderr.decode(errors="replace").strip().split("\n")
     line = lines[-1] if "Python" in lines[0] or "python" in lines[0] else lines[0]
@@ -348,7 +348,7 @@ def seen_of(run, result, whole, has_frame=True):
     """The faults that a person sees in a drawing, or "right" if there are none. If there is no drawing, it is the reason for that.
     `whole` is the drawing without a width."""
     if result.returncode:
-        return "refused: " + said_in(result)
+        return "refused: " + report_in(result)
     out, whole = result.stdout.decode(errors="replace"), whole.stdout.decode(errors="replace")
     if not out:
         return "nothing"

@@ -59,11 +59,11 @@ static long length_of(int file) {
 
 /* Writes a description of the way in which a run ended. */
 static void describe(int status, char text[LENGTH]) {
-    char said[SHOWN + 1] = {0};
+    char reported[SHOWN + 1] = {0};
     int code = WIFEXITED(status) ? WEXITSTATUS(status) : 128 + WTERMSIG(status);
-    if (pread(files[ERRORS], said, SHOWN, 0) < 0) stop("a file of a run");
-    for (char *at = said; (at = strchr(at, '\n')); at++) *at = ' ';
-    snprintf(text, LENGTH, "status %d, %ld bytes, %s", code, length_of(OUTPUT), said);
+    if (pread(files[ERRORS], reported, SHOWN, 0) < 0) stop("a file of a run");
+    for (char *at = reported; (at = strchr(at, '\n')); at++) *at = ' ';
+    snprintf(text, LENGTH, "status %d, %ld bytes, %s", code, length_of(OUTPUT), reported);
 }
 
 /* Runs the program, with one request refused. Returns true if the program made this request. */

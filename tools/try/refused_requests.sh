@@ -45,14 +45,14 @@ refuse() {
   message=$3
   shift 3
   whole=$(($("$crates/$name/out/$name" "$@" < "$input" | wc -c)))
-  said=$("$work/refuse" "$input" "$crates/$name/out/$name" "$@") || exit 2
+  reported=$("$work/refuse" "$input" "$crates/$name/out/$name" "$@") || exit 2
   called=$name${*:+" $*"}
-  printf '%s\n' "$said" | sed "s/^/$called: /"
-  if ! printf '%s\n' "$said" | grep -q "^request 1: status 1, 0 bytes, $message *\$"; then
+  printf '%s\n' "$reported" | sed "s/^/$called: /"
+  if ! printf '%s\n' "$reported" | grep -q "^request 1: status 1, 0 bytes, $message *\$"; then
     echo "$0: the first request of $called was not refused" >&2
     exit 1
   fi
-  if printf '%s\n' "$said" | grep '^request ' \
+  if printf '%s\n' "$reported" | grep '^request ' \
     | grep -v -e ": status 1, 0 bytes, $message *\$" -e ": status 0, $whole bytes, *\$"; then
     echo "$0: a refused request of $called ended in another way" >&2
     exit 1
@@ -63,23 +63,23 @@ refuse() {
 refuse_call() {
   call=$1
   printf '%s\n' "$call" > "$work/call"
-  said=$("$work/refuse" "$work/call" "$crates/test_refused/out/test_refused") || exit 2
+  reported=$("$work/refuse" "$work/call" "$crates/test_refused/out/test_refused") || exit 2
   bytes=$(($(printf '%s: refused, as promised\n' "$call" | wc -c)))
   case $call in
     Table::*add_rows*) words='rows kept: [0-9]*' ;;
     *) words= ;;
   esac
-  if printf '%s\n' "$said" | grep '^request ' \
+  if printf '%s\n' "$reported" | grep '^request ' \
     | grep -v -e ": status 0, $bytes bytes, $words *\$" -e ': status 3, 0 bytes, *$'; then
     echo "$0: a refused request of $call ended in another way" >&2
     exit 1
   fi
-  kept=$(printf '%s\n' "$said" | sed -n 's/^request .* rows kept: \([0-9]*\) *$/\1/p' | uniq | tr '\n' ' ')
+  kept=$(printf '%s\n' "$reported" | sed -n 's/^request .* rows kept: \([0-9]*\) *$/\1/p' | uniq | tr '\n' ' ')
   if [ -n "$words" ] && [ "$kept" != '0 1 2 ' ]; then
     echo "$0: the numbers of rows that $call kept, by request: $kept" >&2
     exit 1
   fi
-  own=$(printf '%s\n' "$said" | sed -n 's/^refused in turn://p' | tr ';' '\n' \
+  own=$(printf '%s\n' "$reported" | sed -n 's/^refused in turn://p' | tr ';' '\n' \
     | awk -v bytes="$bytes" '$2 == "status" && $3 == "0," && $4 == bytes { own += $1 } END { print own + 0 }')
   if [ "$own" -eq 0 ]; then
     echo "$0: no request of $call was refused" >&2

@@ -36,7 +36,7 @@ def terminal(columns=0):
 
 def all_of(ends):
     """The bytes that are read from each of these ends until it is closed."""
-    said = {end: b"" for end in ends}
+    reported = {end: b"" for end in ends}
     waiting = set(ends)
     while waiting:
         for end in select.select(list(waiting), [], [])[0]:
@@ -44,11 +44,11 @@ def all_of(ends):
                 more = os.read(end, 65536)
             except OSError:  # a terminal whose other end is closed
                 more = b""
-            said[end] += more
+            reported[end] += more
             if not more:
                 waiting.remove(end)
                 os.close(end)
-    return said
+    return reported
 
 
 def run(*arguments, text=b"", out="terminal", err="pipe", columns=0, program="", **variables):
@@ -66,8 +66,8 @@ def run(*arguments, text=b"", out="terminal", err="pipe", columns=0, program="",
         process = subprocess.Popen([program or PROGRAM, *arguments], stdin=file, stdout=theirs["out"], stderr=theirs["err"], env=environment)
         for end in theirs.values():
             os.close(end)
-        said = all_of(ends.values())
-    texts = {name: said[end].decode() for name, end in ends.items()}
+        reported = all_of(ends.values())
+    texts = {name: reported[end].decode() for name, end in ends.items()}
     return process.wait(), texts.get("out", ""), texts.get("err", "")
 
 
@@ -167,14 +167,14 @@ def resized():
 
 def waits():
     """Tries an input that comes from a terminal. The terminal gets a message about this."""
-    said = "csvtable: reading from the terminal; end with Ctrl-D\n"
+    reported = "csvtable: reading from the terminal; end with Ctrl-D\n"
     for arguments in ([], ["-"]):
         ours, theirs = terminal(80)
         pipes = {"stdout": subprocess.PIPE, "stderr": subprocess.PIPE}
         process = subprocess.Popen([PROGRAM, *arguments], stdin=theirs, **pipes)
-        is_said = select.select([process.stderr], [], [], 10)[0]
-        first = process.stderr.read(len(said)).decode() if is_said else ""
-        see(f"a terminal gets a message before it is read {' '.join(arguments)}", first == said and process.poll() is None, first)
+        is_reported = select.select([process.stderr], [], [], 10)[0]
+        first = process.stderr.read(len(reported)).decode() if is_reported else ""
+        see(f"a terminal gets a message before it is read {' '.join(arguments)}", first == reported and process.poll() is None, first)
         os.write(ours, b"a,b\nx,y\n\x04")
         out, err = process.communicate(timeout=10)
         see("and its input is drawn", process.returncode == 0 and err == b"" and "│ x ┆ y │" in out.decode(), out.decode())
@@ -199,7 +199,7 @@ def blank():
         ([], "a\n", ""),
     ):
         status, _, err = run(*arguments, text=text)
-        see(f"what a terminal is told of {text!r} {' '.join(arguments)}", status == 0 and err == message, err)
+        see(f"the message in a terminal about {text!r} {' '.join(arguments)}", status == 0 and err == message, err)
         status, _, err = run(*arguments, text=text, out="pipe", err="pipe")
         see("and a pipe", status == 0 and err == "", err)
 
@@ -215,8 +215,8 @@ def bold():
         ("NO_COLOR=1 and --color always", ["--color", "always"], {"NO_COLOR": "1"}, "terminal", True),
     ):
         err = "pipe" if out == "terminal" else "terminal"
-        status, said, _ = run(*arguments, text="a,b\nx,y\n", out=out, err=err, **variables)
-        see(f"bold in {name}", status == 0 and ("\x1b[1m" in said) == is_bold, said)
+        status, reported, _ = run(*arguments, text="a,b\nx,y\n", out=out, err=err, **variables)
+        see(f"bold in {name}", status == 0 and ("\x1b[1m" in reported) == is_bold, reported)
 
 
 def endings():
@@ -271,8 +271,8 @@ def pages():
         table = subprocess.Popen([PROGRAM, file.name], stdout=subprocess.PIPE, stderr=subprocess.PIPE)
         head = subprocess.run(["head", "-5"], stdin=table.stdout, capture_output=True)
         table.stdout.close()
-        said = table.stderr.read()
-        see("100,000 records through head", table.wait() == 1 and said == b"" and head.stdout.count(b"\n") == 5, head.stdout.decode())
+        reported = table.stderr.read()
+        see("100,000 records through head", table.wait() == 1 and reported == b"" and head.stdout.count(b"\n") == 5, head.stdout.decode())
 
 
 def main():

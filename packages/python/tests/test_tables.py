@@ -628,7 +628,7 @@ class Settings(unittest.TestCase):
 
     def test_cells_beside_colours_by_value(self):
         called = []
-        drawing = tabulate([[Cell("a", "on_#010203"), 1]], colors=lambda *asked: called.append(asked) or "red", style="ascii", color="always")
+        drawing = tabulate([[Cell("a", "on_#010203"), 1]], colors=lambda *values: called.append(values) or "red", style="ascii", color="always")
         self.assertEqual(called, [(0, 0, "a"), (0, 1, 1)])
         self.assertIn("|\x1b[48;2;1;2;3m \x1b[31ma\x1b[0m", drawing)
         self.assertIn("| \x1b[31m1\x1b[0m |", drawing)
@@ -861,7 +861,7 @@ def random_rows(chance):
 def random_settings(chance):
     """Random settings, and options of csvtable with the same effect."""
     chosen = [MARKDOWN] if chance.random() < 0.1 else [chance.choice(line) for line in CHOICES]
-    settings = {name: value for asked, _ in chosen for name, value in asked.items()}
+    settings = {name: value for wanted, _ in chosen for name, value in wanted.items()}
     return settings, [word for _, words in chosen for word in words]
 
 
@@ -883,8 +883,8 @@ def by_csvtable(text, words):
     # Without -c, csvtable leaves out last columns that have neither a name nor a field. Rows keep all their columns.
     ran = subprocess.run([CSVTABLE, "-d", ",", "-e", "utf-8", "-c", "1-", *words], input=text.encode(), capture_output=True, env=surroundings)
     # csvtable prints a note after a drawing if records have more fields than the header.
-    said = re.sub(r"^csvtable: standard input: line \d+ has \d+ fields, the header has \d+.*\n", "", ran.stderr.decode())
-    return ran.stdout.decode() + said
+    reported = re.sub(r"^csvtable: standard input: line \d+ has \d+ fields, the header has \d+.*\n", "", ran.stderr.decode())
+    return ran.stdout.decode() + reported
 
 
 FRAMES = ["rounded", "box", "ascii", "plain", "ASCII_FULL_CONDENSED", "ASCII_NO_BORDERS", "ASCII_BORDERS_ONLY", "ASCII_MARKDOWN"]
@@ -951,8 +951,8 @@ class Examples(unittest.TestCase):
         for name in "boats.py", "report.py":
             program = EXAMPLES / name
             ran = subprocess.run([sys.executable, program], capture_output=True, check=True, env={**os.environ, "PYTHONIOENCODING": "utf-8"})
-            said = program.read_text().split('"""')[1]
-            self.assertEqual(re.sub("\x1b\\[[0-9;]*m", "", ran.stdout.decode()), said.split("\n\n", 1)[1])
+            reported = program.read_text().split('"""')[1]
+            self.assertEqual(re.sub("\x1b\\[[0-9;]*m", "", ran.stdout.decode()), reported.split("\n\n", 1)[1])
 
 
 def load_tests(loader, tests, pattern):

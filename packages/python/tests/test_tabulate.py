@@ -92,8 +92,8 @@ class Tabulate(unittest.TestCase):
     def test_the_page_has_the_number_of_calls(self):
         page = (HERE.parent / "TABULATE.md").read_text(encoding="utf-8")
         counts = [sum(map(len, CALLS.values())), len(CALLS[SAME]), len(CALLS[WIDER])]
-        said = re.search(r"(\d+) calls were compared.* (\d+) calls draw the same bytes, and (\d+) do if", page, re.DOTALL)
-        self.assertEqual([int(count) for count in said.groups()], counts)
+        reported = re.search(r"(\d+) calls were compared.* (\d+) calls draw the same bytes, and (\d+) do if", page, re.DOTALL)
+        self.assertEqual([int(count) for count in reported.groups()], counts)
 
     def installed(self):
         try:

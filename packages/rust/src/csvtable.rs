@@ -24,10 +24,11 @@ use crate::library::{self, CsvAnswer};
 /// The input has the encoding that the option `-e` names. Without this option it has UTF-8, or another encoding that csvtable
 /// recognises.
 ///
-/// No file is opened. A file name among the arguments names the input in messages. If it ends with `.tsv` or `.tab`, TABs may
-/// separate fields.
+/// No file is opened. A file name among the arguments names the input in messages. If it ends with `.tsv` or `.tab`, and no
+/// argument sets a delimiter, TABs separate fields, unless the first line is `sep=` with another delimiter.
 ///
-/// The table has a greatest width only if the option `-w` sets one. The drawing ends with a line feed.
+/// The table has a greatest width only if the option `-w` sets one. The drawing ends with a line feed. If the input has no records,
+/// the drawing is empty.
 ///
 /// # Errors
 ///

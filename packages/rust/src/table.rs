@@ -607,7 +607,8 @@ impl Table {
     }
 
     /// Sets the truncation indicator: a text that ends the last drawn line of a cell that [`Row::max_height`] cuts. If the column
-    /// has no room for it after that line, it replaces the line's last characters. In a new table it is `…`.
+    /// has no room for it after that line, it replaces the line's last characters. An indicator that is wider than its column isn't
+    /// drawn. In a new table it is `…`.
     ///
     /// ```
     /// use comfy_table_proved::{Row, Table};

@@ -133,8 +133,8 @@ fn errors() {
     assert_eq!(rows.clone().right([3]).unwrap_err(), Error::NoColumn("3".into()));
     assert_eq!(rows.clone().left(["a"]).unwrap_err(), Error::AmbiguousColumn("a".into()));
     assert_eq!(rows.left(["b"]).unwrap().right([1]).unwrap_err(), Error::TwoSides(1));
-    let said = "csvtable: list.csv: a quote that opens in line 1 is never closed; try --no-quotes";
-    assert_eq!(draw_csv("a,\"b\n", &["list.csv"]).unwrap_err().to_string(), said);
+    let reported = "csvtable: list.csv: a quote that opens in line 1 is never closed; try --no-quotes";
+    assert_eq!(draw_csv("a,\"b\n", &["list.csv"]).unwrap_err().to_string(), reported);
     assert_eq!(draw_csv([0xff], &["-e", "cp1252", "-n", "-s", "ascii"]).unwrap(), "+---+\n| ÿ |\n+---+\n");
     assert!(matches!(draw_csv("a\n", &["-s", "odd"]), Err(Error::Arguments(_))));
 }

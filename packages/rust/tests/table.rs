@@ -235,7 +235,7 @@ mod terminal {
     }
 
     #[test]
-    fn colours_are_written_where_they_are_asked_for() {
+    fn colours_are_written_if_they_are_requested() {
         let cell = Cell::new("a").fg(Color::Red).bg(Color::Rgb { r: 1, g: 2, b: 3 }).add_attribute(Attribute::Bold);
         let mut table = Table::new();
         table.force_no_tty().add_row([cell.clone()]);

@@ -102,7 +102,7 @@ fn wrapped() {
 
 // table.with(Width::increase(20))
 #[test]
-fn as_wide_as_asked() {
+fn as_wide_as_requested() {
     let table = Rows::new(["a", "b"]).row(["x", "y"]);
     assert_eq!(
         table.width(20).full(true).to_string(),

@@ -53,10 +53,10 @@ class Layout:
         A column that no setting aligns has the side `otherwise`.
         """
         sides = [side or otherwise for side in self._aligned(colalign)]
-        asked: dict[int, int] = {}
+        wanted: dict[int, int] = {}
         for side, columns in (LEFT, left), (RIGHT, right), (CENTER, center):
             for position in self.positions_of(columns):
-                other = asked.setdefault(position, side)
+                other = wanted.setdefault(position, side)
                 if other != side:
                     raise ValueError(f"the column at position {position} is in both {_SETTINGS[other]} and {_SETTINGS[side]}")
                 sides[position] = side
@@ -90,11 +90,11 @@ class Layout:
 
     def _paddings(self, padding: Padding) -> list[tuple[int, int]]:
         """The left and the right padding of each column, in terminal columns."""
-        asked = self._for_each(padding) if isinstance(padding, Mapping) else [padding] * self._count
-        return [(1, 1) if it is None else _pair_of(it) for it in asked]
+        wanted = self._for_each(padding) if isinstance(padding, Mapping) else [padding] * self._count
+        return [(1, 1) if it is None else _pair_of(it) for it in wanted]
 
     def _for_each(self, setting: Any) -> list[Any]:
-        """The value of a setting for each column, or None if it has none.
+        """The value of a setting for each column. It is None for a column without a value.
 
         A setting is one value for all columns, a list of values for the first columns, or a dict of values by column.
         """

@@ -150,9 +150,10 @@ def draw_csv(data: str | bytes, arguments: Sequence[str] = ()) -> str:
 
     data: the CSV. A str is passed as UTF-8. Bytes may be in another encoding, which the option "-e" names or csvtable recognises.
     arguments: the arguments, for example ["-r", "price", "-w", "60"]. No file is opened. A file name among them names the input in
-        messages. If it ends in .tsv or .tab, TABs may separate fields. The table has a greatest width only if "-w" sets one.
+        messages. If it ends in .tsv or .tab, and no argument sets a delimiter, TABs separate fields, unless the first line is
+        "sep=" with another delimiter. The table has a greatest width only if "-w" sets one.
 
-    The drawing is returned. It ends with a line feed.
+    The drawing is returned. It ends with a line feed, or is empty if the CSV has no records.
 
     ValueError is raised with csvtable's message if the arguments or the CSV are refused, or if the arguments ask for help or the
     version. MemoryError is raised if memory runs out.
@@ -176,7 +177,10 @@ def draw_rows(
 ) -> str:
     """Draws rows of texts.
 
-    `looks` has a look for each text, or is empty. `heights` has the greatest number of lines of each row, or is empty.
+    `looks` has a look for each text, or is empty. `heights` is empty, or has the greatest number of lines of the header and of each
+    row. If a number is 0, `max_height` of the settings counts for its row. The header has no limit, whatever its number is.
+
+    ValueError is raised if the library refuses an argument, and MemoryError if memory runs out.
     """
     texts = [text.encode() for row in rows for text in row]
     joined = b"".join(texts)

@@ -61,14 +61,14 @@ def value_of(value: Any) -> Any:
     return value.value if isinstance(value, Cell) else value
 
 
-def writes_colors(asked: str) -> bool:
+def writes_colors(wanted: str) -> bool:
     """True if colours are written.
 
     This is so for "always". It is so for "auto" if standard output is a terminal, and NO_COLOR isn't set or is empty.
     """
-    if asked not in ("auto", "always", "never"):
-        raise ValueError(f'color takes "auto", "always" or "never", not {asked!r}')
-    return asked == "always" or asked == "auto" and not os.environ.get("NO_COLOR") and _is_terminal(sys.stdout)
+    if wanted not in ("auto", "always", "never"):
+        raise ValueError(f'color takes "auto", "always" or "never", not {wanted!r}')
+    return wanted == "always" or wanted == "auto" and not os.environ.get("NO_COLOR") and _is_terminal(sys.stdout)
 
 
 def _is_terminal(output: Any) -> bool:

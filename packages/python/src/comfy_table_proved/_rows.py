@@ -41,9 +41,10 @@ class _Fetched(list):  # type: ignore[type-arg]
 
 
 def kept(data: Any) -> Any:
-    """Rows that can be read more than once.
+    """The same rows in a form that can be read more than once.
 
-    The rows of a list or an iterator are copied to a new list, to which rows can be added.
+    A list or an iterator is copied to a new list, to which rows can be added. The rows of a cursor are fetched. Other data are
+    returned unchanged.
     """
     if getattr(data, "description", None) and hasattr(data, "fetchone"):
         fetched = _Fetched(data)
@@ -77,9 +78,9 @@ def values_of(data: Any, headers: Headers, showindex: ShowIndex) -> Values:
 
 
 def _read(data: Any) -> _Read:
-    """Reads rows by the attributes that the object has.
+    """Reads the rows of `data`.
 
-    So this package needs neither pandas nor numpy.
+    The attributes of `data` show its kind, so that this package needs to import neither pandas nor numpy.
     """
     names = getattr(getattr(data, "dtype", None), "names", None)
     if names:
@@ -179,19 +180,19 @@ def _chosen_by(header: Optional[list[Any]], read: _Read) -> _Read:
     return read._replace(rows=[[row[position] for position in positions] for row in read.rows], keys=names)
 
 
-def _index_of(asked: ShowIndex, read: _Read, count: int) -> Optional[list[Any]]:
+def _index_of(wanted: ShowIndex, read: _Read, count: int) -> Optional[list[Any]]:
     """The index: a label for each row, or None for no index."""
-    if isinstance(asked, str):
-        if asked not in ("default", "always", "never"):
-            raise ValueError(f'showindex takes "default", "always", "never", True, False or a list, not {asked!r}')
-        shows, given = asked != "never", asked == "always"
-    elif isinstance(asked, Iterable):
-        index = list(asked)
+    if isinstance(wanted, str):
+        if wanted not in ("default", "always", "never"):
+            raise ValueError(f'showindex takes "default", "always", "never", True, False or a list, not {wanted!r}')
+        shows, given = wanted != "never", wanted == "always"
+    elif isinstance(wanted, Iterable):
+        index = list(wanted)
         if len(index) != count:
             raise ValueError(f"showindex has {len(index)} values for {count} rows")
         return index
     else:
-        shows, given = bool(asked), bool(asked)
+        shows, given = bool(wanted), bool(wanted)
     if shows and read.labels is not None:
         return read.labels
     return list(range(count)) if given else None

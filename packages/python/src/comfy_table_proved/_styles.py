@@ -38,7 +38,7 @@ GAP = "\ue000"
 
 
 class Frame(NamedTuple):
-    """A frame.
+    """The characters of a frame, and the rules for drawing it.
 
     `lines` has the characters of the frame's six lines. `number` is the frame's number in comfy_table.h, or None if it has no
     number there. `row_lines` is the condition for lines between rows.
@@ -71,9 +71,9 @@ class Frame(NamedTuple):
         return tuple(line if at not in (1, 3) else (line[0], *line[2:]) for at, line in enumerate(lines))
 
     def for_table(self, has_header: bool, texts: Sequence[Sequence[str]]) -> Frame:
-        """This frame for a table with these texts, with a header or without.
+        """The frame for a table of these texts.
 
-        The frame's character for gaps is one that no text has.
+        Without a header it has the lines `headless`, if there are any. Its character for gaps is one that no text has.
         """
         lines = self.lines if has_header or self.headless is None else self.headless
         if not self.has_gaps:

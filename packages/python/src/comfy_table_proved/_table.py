@@ -75,8 +75,8 @@ def tabulate(
 ) -> str:
     """Draws rows as a table, and returns it without a line feed at its end.
 
-    rows: a list of rows. A row is a list or another iterable. Or it has keys: it is a dict, a dataclass, a named tuple or a
-        sqlite3.Row. Instead of a list of rows you can pass a dict of columns, a cursor, a DataFrame, a Series or an array.
+    rows: a list of rows. A row is a list or another iterable, or has keys, as a dict, a dataclass, a named tuple and a
+        sqlite3.Row do. Instead of a list of rows you can pass a dict of columns, a cursor, a DataFrame, a Series or an array.
         Rows may have different lengths. `None` is drawn as an empty cell. Other values are drawn as `str` returns them. A `Cell`
         is a value with its own colours and alignment. It can be in a row or in `headers`.
 
@@ -119,8 +119,8 @@ def tabulate(
     colalign: the alignments of the first columns, such as ("left", "right", "center").
     align_decimals: True puts the decimal points of a column of numbers below each other.
     width: the table's greatest width in terminal columns. "terminal" means the width of the terminal. None and 0 mean no limit.
-    full: True makes the table exactly as wide as `width`. Columns with their own widths then grow only if all columns have such
-        widths.
+    full: True widens a narrower table to `width`. Without `width` it has no effect. Columns with their own widths are widened only
+        if all columns have such widths.
     colwidths, mincolwidths, maxcolwidths: the exact, least and greatest widths of columns' texts, in terminal columns. Each is a
         number for all columns, a list with a number or None for each column, or a dict of numbers by name or position. None means
         no such width.
@@ -356,9 +356,10 @@ def _contents_of(table: Table, values: Values, frame: Frame, has_colors: bool) -
 
 
 def _drawn(contents: _Contents, heights: list[int], settings: RowsSettings) -> str:
-    """Draws the contents.
+    """Draws a table by the library.
 
-    In Markdown and expanded rows, the only setting of a column is its side.
+    `heights` has the greatest number of lines of each row, or is empty. In Markdown and in expanded rows, the only setting of a
+    column is its side.
     """
     records, looks, columns = contents
     if settings.is_markdown:
@@ -405,7 +406,7 @@ def _refuse_settings(table: Table, values: Values, is_markdown: bool) -> None:
     if not is_markdown and not table.expanded:
         return
     is_expanded = not is_markdown and table.expanded != "auto"
-    asked = {
+    wanted = {
         "center": is_expanded and (table.center is not None or "center" in (table.colalign or ())),
         "colwidths": table.colwidths is not None,
         "mincolwidths": table.mincolwidths is not None,
@@ -415,8 +416,8 @@ def _refuse_settings(table: Table, values: Values, is_markdown: bool) -> None:
         "list as max_height": isinstance(table.max_height, (list, tuple)),
         "Cell": (is_markdown or is_expanded) and _has_cells(values),
     }
-    for name, is_asked in asked.items():
-        if is_asked:
+    for name, is_wanted in wanted.items():
+        if is_wanted:
             raise ValueError(f"{'a table for Markdown has' if is_markdown else 'expanded rows have'} no {name}")
 
 
@@ -514,11 +515,11 @@ def _width_of(width: Width) -> int:
     return number or NO_WIDTH
 
 
-def _expansion_of(asked: bool | str) -> int:
-    if asked is False or asked is None:
+def _expansion_of(wanted: bool | str) -> int:
+    if wanted is False or wanted is None:
         return NEVER
-    if asked == "auto":
+    if wanted == "auto":
         return AUTO
-    if asked is True:
+    if wanted is True:
         return ALWAYS
-    raise ValueError(f'expanded takes True, False or "auto", not {asked!r}')
+    raise ValueError(f'expanded takes True, False or "auto", not {wanted!r}')

@@ -79,7 +79,7 @@ pub const ASCII_FULL: TableStyle = TableStyle {
     bottom_border: line(['+', '-', '+', '+']),
 };
 
-/// As [`ASCII_FULL`], but without lines between rows.
+/// Lines everywhere except between rows, in ASCII.
 ///
 /// ```text
 /// +-------+-------+
@@ -98,7 +98,7 @@ pub const ASCII_FULL_CONDENSED: TableStyle = TableStyle {
     bottom_border: line(['+', '-', '+', '+']),
 };
 
-/// As [`ASCII_FULL`], but without lines around the table.
+/// Lines everywhere except around the table, in ASCII.
 ///
 /// ```text
 ///  Hello | there
@@ -116,7 +116,7 @@ pub const ASCII_NO_BORDERS: TableStyle = TableStyle {
     bottom_border: LineStyle::none(),
 };
 
-/// Lines around the table and below the header, in ASCII, and an empty line between rows.
+/// Lines around the table and below the header, in ASCII, and a line of spaces between rows.
 ///
 /// ```text
 /// +---------------+
@@ -155,7 +155,7 @@ pub const ASCII_BORDERS_ONLY_CONDENSED: TableStyle = TableStyle {
     bottom_border: line(['+', '-', '-', '+']),
 };
 
-/// Only horizontal lines, in ASCII.
+/// Horizontal lines alone, in ASCII.
 ///
 /// ```text
 /// ---------------
@@ -175,7 +175,8 @@ pub const ASCII_HORIZONTAL_ONLY: TableStyle = TableStyle {
     bottom_border: line([' ', '-', '-', ' ']),
 };
 
-/// The lines of a table for Markdown. Texts aren't escaped. A line break in a text breaks the table.
+/// The lines of a table for Markdown. Texts aren't escaped. A row with more than one line breaks
+/// the table.
 ///
 /// ```text
 /// | Hello | there |
@@ -192,7 +193,7 @@ pub const ASCII_MARKDOWN: TableStyle = TableStyle {
     bottom_border: LineStyle::none(),
 };
 
-/// Lines everywhere.
+/// Lines everywhere, of box drawing characters.
 ///
 /// ```text
 /// ┌───────┬───────┐
@@ -212,7 +213,7 @@ pub const UTF8_FULL: TableStyle = TableStyle {
     bottom_border: line(['└', '─', '┴', '┘']),
 };
 
-/// As [`UTF8_FULL`], but without lines between rows.
+/// Lines everywhere except between rows, of box drawing characters.
 ///
 /// ```text
 /// ┌───────┬───────┐
@@ -231,7 +232,7 @@ pub const UTF8_FULL_CONDENSED: TableStyle = TableStyle {
     bottom_border: line(['└', '─', '┴', '┘']),
 };
 
-/// As [`UTF8_FULL`], but without lines around the table.
+/// Lines everywhere except around the table, of box drawing characters.
 ///
 /// ```text
 ///  Hello ┆ there
@@ -249,7 +250,7 @@ pub const UTF8_NO_BORDERS: TableStyle = TableStyle {
     bottom_border: LineStyle::none(),
 };
 
-/// Lines around the table and below the header.
+/// Lines around the table and below the header, of box drawing characters.
 ///
 /// ```text
 /// ┌───────────────┐
@@ -268,7 +269,7 @@ pub const UTF8_BORDERS_ONLY: TableStyle = TableStyle {
     bottom_border: line(['└', '─', '─', '┘']),
 };
 
-/// Only horizontal lines.
+/// Horizontal lines alone, of box drawing characters.
 ///
 /// ```text
 /// ───────────────
@@ -288,7 +289,7 @@ pub const UTF8_HORIZONTAL_ONLY: TableStyle = TableStyle {
     bottom_border: line([' ', '─', '─', ' ']),
 };
 
-/// No lines.
+/// No lines: only the texts of cells, with their paddings.
 ///
 /// ```text
 ///  Hello  there

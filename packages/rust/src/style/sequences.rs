@@ -82,37 +82,37 @@ pub enum Attribute {
 pub enum Color {
     /// The default colour of the terminal.
     Reset,
-    /// Colour 0 of 256.
+    /// Colour 0 of the 256 colours of a terminal.
     Black,
-    /// Colour 8 of 256.
+    /// Colour 8 of the 256 colours of a terminal.
     DarkGrey,
-    /// Colour 9 of 256.
+    /// Colour 9 of the 256 colours of a terminal.
     Red,
-    /// Colour 1 of 256.
+    /// Colour 1 of the 256 colours of a terminal.
     DarkRed,
-    /// Colour 10 of 256.
+    /// Colour 10 of the 256 colours of a terminal.
     Green,
-    /// Colour 2 of 256.
+    /// Colour 2 of the 256 colours of a terminal.
     DarkGreen,
-    /// Colour 11 of 256.
+    /// Colour 11 of the 256 colours of a terminal.
     Yellow,
-    /// Colour 3 of 256.
+    /// Colour 3 of the 256 colours of a terminal.
     DarkYellow,
-    /// Colour 12 of 256.
+    /// Colour 12 of the 256 colours of a terminal.
     Blue,
-    /// Colour 4 of 256.
+    /// Colour 4 of the 256 colours of a terminal.
     DarkBlue,
-    /// Colour 13 of 256.
+    /// Colour 13 of the 256 colours of a terminal.
     Magenta,
-    /// Colour 5 of 256.
+    /// Colour 5 of the 256 colours of a terminal.
     DarkMagenta,
-    /// Colour 14 of 256.
+    /// Colour 14 of the 256 colours of a terminal.
     Cyan,
-    /// Colour 6 of 256.
+    /// Colour 6 of the 256 colours of a terminal.
     DarkCyan,
-    /// Colour 15 of 256.
+    /// Colour 15 of the 256 colours of a terminal.
     White,
-    /// Colour 7 of 256.
+    /// Colour 7 of the 256 colours of a terminal.
     Grey,
     /// A colour by its parts of red, green and blue, each from 0 to 255.
     Rgb {

@@ -74,7 +74,8 @@ impl LineStyle {
     }
 }
 
-/// The vertical borders of the lines that hold texts.
+/// The vertical borders of the lines that hold texts. A border that isn't set is a space if another line of the [`TableStyle`] has
+/// a character for it. Otherwise it isn't drawn.
 ///
 /// ```text
 /// │ Hello ┆ there │
@@ -84,11 +85,11 @@ impl LineStyle {
 /// ```
 #[derive(Clone, Copy, Debug, Default, PartialEq, Eq)]
 pub struct ContentLineStyle {
-    /// The character of the left border.
+    /// The character of the left border. `None` sets none.
     pub left: Option<char>,
-    /// The character between two columns.
+    /// The character of the border between two columns. `None` sets none.
     pub junction: Option<char>,
-    /// The character of the right border.
+    /// The character of the right border. `None` sets none.
     pub right: Option<char>,
 }
 

@@ -1,4 +1,4 @@
-//! Converts a table to the numbers and texts that the library takes.
+//! Converts a table to the numbers and texts that the functions of comfy_table.h take.
 
 use crate::cell::Cell;
 use crate::column::Column;
@@ -13,7 +13,8 @@ use crate::table::{Form, Table};
 use crate::terminal;
 use crate::text;
 
-/// Returns the cells, rows and columns of a table for the library, and the number of bytes that the texts of its longest row have.
+/// Returns the texts, cells, rows and columns of a table in the numbers of comfy_table.h. The header is the first row. Also returns
+/// the greatest number of bytes in the texts of a row.
 pub fn cells_of(table: &Table) -> (CellTable, usize) {
     let mut longest = 0;
     let mut made = CellTable {
@@ -40,11 +41,12 @@ fn bytes_in(row: &Row) -> usize {
     row.cells.iter().map(|cell| cell.text.len()).sum()
 }
 
-/// Estimates the greatest number of bytes that the drawing of a table within a width has. If the estimate is far too great, this
-/// costs nothing. If it is too small, the table is drawn a second time.
+/// Estimates how many bytes the drawing of a table has at most. `width` is in terminal columns, and `None` means no width. If the
+/// estimate is too great, this costs nothing, because the system provides memory only for pages that are written. If it is too
+/// small, the table is drawn a second time.
 ///
-/// For each row, the estimate counts the lines that its texts may take, a line of the frame, and the sequences of its cells.
-/// `longest` is the number of bytes that the texts of the longest row have.
+/// For each row, the estimate counts the lines that its texts may take, a line of the frame, and the SGR sequences of its cells.
+/// `longest` is the greatest number of bytes in the texts of a row.
 pub fn room_for(table: &Table, cells: &CellTable, longest: usize, width: Option<u16>) -> usize {
     const SEQUENCES: usize = 64;
     const MOST: usize = 1 << 30;
@@ -65,8 +67,8 @@ pub fn room_for(table: &Table, cells: &CellTable, longest: usize, width: Option<
     estimate.min(MOST) + 4 * cells.texts.len()
 }
 
-/// Returns the other settings of a table for the library, for a drawing of this form. The width is in terminal columns, and `None`
-/// means no width.
+/// Returns the settings of a table in the numbers of comfy_table.h. [`cells_of`] returns the table's contents and columns. `form`
+/// is the form of the drawing. `width` is in terminal columns, and `None` means no width.
 pub fn settings_of(table: &Table, width: Option<u16>, form: Form) -> numbers::CellsSettings {
     numbers::CellsSettings {
         form: match form {
