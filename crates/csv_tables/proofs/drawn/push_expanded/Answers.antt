@@ -44,5 +44,5 @@ loop-fields-preserved c =
       omega (arith, count, had.1),
       ap (λ (a : ArrangedValue). with_other_rows table.rows a.table) kept ∙ had.2,
       ap (λ (a : ArrangedValue). a.infos) kept ∙ had.3,
-      subst (λ (rs : RecordRows). AreNamed rs (map cell_of c.push_fields.new.cells.items)) (ap (λ v. v.rows) (c.after-arranged.view_is ∙ c.contents.ensures)) c.in_ok-push_fields.ensures.named,
+      subst (λ (rs : RecordRows). AreNamed rs (map cell_of c.push_fields.new.cells.items)) (ap (λ v. v.rows) (c.behind-arranged.view_is ∙ c.contents.ensures)) c.in_ok-push_fields.ensures.named,
     )
