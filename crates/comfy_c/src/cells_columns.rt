@@ -8,7 +8,7 @@ use comfy_parts::Column;
 use comfy_parts::style::{ColumnConstraint, Width};
 use std::alloc::{AllocError, Global};
 
-/// A width in the constraint of a column of a table of cells.
+/// A width in the constraint of a column (`ColumnNumbers`).
 #[derive(Clone, Copy, Debug)]
 #[repr(C)]
 pub struct WidthNumbers {
@@ -19,7 +19,7 @@ pub struct WidthNumbers {
     pub value: u16,
 }
 
-/// The settings of a column of a table of cells.
+/// The settings of a column of a table that `comfy_cells_draw` draws.
 #[derive(Clone, Copy, Debug)]
 #[repr(C)]
 pub struct ColumnNumbers {
@@ -38,10 +38,11 @@ pub struct ColumnNumbers {
     /// to `upper` with 6. Any other number sets no constraint. A percentage is no constraint if the
     /// table has no width.
     pub constraint: u32,
-    /// The width of the constraints 3, 4 and 5, and the least width of 6. Otherwise this field has
-    /// no effect.
+    /// The width of the column if `constraint` is 3, its least width for 4 and 6, and its greatest
+    /// width for 5. For any other `constraint` this field has no effect.
     pub width: WidthNumbers,
-    /// The greatest width of the constraint 6. Otherwise this field has no effect.
+    /// The greatest width of the column if `constraint` is 6. For any other `constraint` this field
+    /// has no effect.
     pub upper: WidthNumbers,
 }
 

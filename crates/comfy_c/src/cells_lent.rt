@@ -51,8 +51,9 @@ impl<'a> Model for LentTable<'a> {
 }
 
 impl<'a> LentTable<'a> {
-    /// Returns the table with these rows below its header. `table` has no rows. `cells` has the
-    /// cells of all `rows`, in the order of the rows. The only error is `OutOfMemory`.
+    /// Returns `table` with the rows `rows` below its header. `table` itself must have no rows.
+    /// `cells` has the cells of all `rows`, in the order of the rows. The only error is
+    /// `OutOfMemory`.
     pub fn new(
         alloc: Global,
         table: Table,

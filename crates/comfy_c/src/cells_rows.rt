@@ -32,14 +32,14 @@ pub struct CellNumbers {
     pub look: LookNumbers,
 }
 
-/// The settings of a row of a table of cells.
+/// The settings of a row of a table that `comfy_cells_draw` draws.
 #[derive(Clone, Copy, Debug)]
 #[repr(C)]
 pub struct RowNumbers {
     /// The number of cells in the row.
     pub cells: usize,
-    /// The greatest number of lines of the row; longer texts are cut. 0 and `usize::MAX` set no
-    /// limit.
+    /// The greatest number of lines of the row; texts with more lines are cut. 0 and `usize::MAX`
+    /// set no limit.
     pub max_height: usize,
 }
 
@@ -184,9 +184,9 @@ fn aligned(cell: Cell, alignment: Option<CellAlignment>) -> Cell
     }
 }
 
-/// The cells that have these texts. A cell borrows its text from the caller, except in three cases.
-/// It has a copy of the text if the text has ESC, if the cell has a delimiter, or if it has colours
-/// or attributes that aren't in `looks`.
+/// The cells that have `texts` and the settings in `cells`. A cell borrows its text from the
+/// caller, except in three cases. It has a copy of the text if the text has ESC, if the cell has a
+/// delimiter, or if it has colours or attributes that aren't in `looks`.
 pub(crate) fn lent_cells<'a>(
     alloc: Global,
     cells: &[CellNumbers],

@@ -6,7 +6,7 @@ ghost use Rattle.comfy_c.specs.Numbers.{arrangements};
 use crate::frame::FrameNumbers;
 use comfy_parts::style::ContentArrangement;
 
-/// The settings of a table of cells. A flag is set if it isn't 0.
+/// The settings of a table that `comfy_cells_draw` draws. A flag is set if it isn't 0.
 #[derive(Clone, Copy, Debug)]
 #[repr(C)]
 pub struct CellsSettings {
@@ -21,9 +21,10 @@ pub struct CellsSettings {
     /// The rule by which columns get their widths, a `ContentArrangement`: 0 for `Disabled`, 1 for
     /// `Dynamic`, 2 for `DynamicFullWidth`.
     pub arrangement: u32,
-    /// The width of the table in terminal columns, which `Dynamic` keeps to and `DynamicFullWidth`
-    /// fills. `Disabled` uses the width only for constraints in percent. A number above 65535 sets
-    /// no width.
+    /// The width of the table in terminal columns. `Dynamic` wraps texts so that the table isn't
+    /// wider, and `DynamicFullWidth` also fills this width. The table may be wider if borders,
+    /// paddings and constraints leave too little room for its columns. `Disabled` uses the width
+    /// only for constraints in percent. A number above 65535 sets no width.
     pub width: u32,
     /// The code point of the character at which texts may break; 0 for a space.
     pub delimiter: u32,

@@ -15,7 +15,7 @@ use std::alloc::Global;
 /// A zero byte ends each argument. The zero byte of the last argument may be missing. No file is
 /// opened: the name of a file among the arguments only appears in messages. TABs separate the
 /// fields if the name ends with `.tsv` or `.tab`, no argument sets a delimiter, and no first line
-/// such as `sep=;` names another one.
+/// such as `sep=;` names another delimiter.
 ///
 /// | Returned | Meaning | At the front of the buffer |
 /// |---|---|---|

@@ -7,10 +7,10 @@ use crate::cells_numbers::char_of;
 use comfy_parts::style::presets::{UTF8_FULL, by_position};
 use comfy_parts::style::{ContentLineStyle, LineStyle, TableStyle};
 
-/// The characters of a frame line, as code points. 0 means that there is no character. A missing
-/// `fill` is drawn as spaces. Another missing character is drawn as a space if another line of the
-/// frame has a character at its place. If no line has one there, the place takes no terminal
-/// column.
+/// The characters of a frame line, as code points. 0 means that there is no character. If all four
+/// numbers are 0, the line isn't drawn. In a drawn line, a missing `fill` is drawn as spaces. A
+/// missing `left`, `junction` or `right` is drawn as a space if another line of the frame has a
+/// character there. If no line has a character there, a missing character takes no terminal column.
 #[derive(Clone, Copy, Debug)]
 #[repr(C)]
 pub struct LineNumbers {
@@ -25,8 +25,9 @@ pub struct LineNumbers {
 }
 
 /// The borders in a line of texts, as code points. 0 means that there is no character. A missing
-/// character is drawn as a space if another line of the frame has a character at its place. If no
-/// line has one there, the place takes no terminal column.
+/// `left`, `junction` or `right` is drawn as a space if another line of the frame has a character
+/// there. If no line has a character there, a missing character takes no terminal column. Even if
+/// all three numbers are 0, the texts are drawn.
 #[derive(Clone, Copy, Debug)]
 #[repr(C)]
 pub struct ContentLineNumbers {

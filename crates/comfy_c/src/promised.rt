@@ -50,9 +50,9 @@ pub fn drawn_cells(
 /// `output` are UTF-8. They are the table that the settings, looks, heights and columns describe,
 /// as `csvtable` draws records of these texts.
 ///
-/// The visible text has no control character except line feeds, and no character that turns the
-/// direction of text. The only SGR sequences begin bold and end it, unless `has_sequences` keeps
-/// those of the texts.
+/// The visible text, which is the output without its SGR sequences, has no control character except
+/// line feeds, and no character that turns the direction of text. The only SGR sequences begin bold
+/// and end it, unless `has_sequences` keeps those of the texts.
 ///
 /// The promises on the visible text and in the list below are for a preset, or for a frame of the
 /// caller's own. Such a frame must have no control characters, and no characters that turn the
@@ -71,19 +71,19 @@ pub fn drawn_cells(
 ///   other than U+FE01 and U+FE0E, have room if the width is at least 1 + 5 n. Here n is 2 if rows
 ///   are always drawn as tables of their own, or if they may be and a row is drawn. Otherwise n is
 ///   the number of drawn columns, including that of row numbers.
-/// - If a width is set, no such line shows more terminal columns than the width, or than 1 + 4 n if
-///   that is greater. This holds if each character takes at most one terminal column, and none is
-///   U+FE01. It also holds if each character takes at most two, none is U+FE01 or U+FE0E, and the
-///   width is at least 1 + 5 n. If the width is filled and has room for the frame, each such line
-///   shows exactly as many terminal columns as the width.
+/// - If a width is set, no line except lines that count rows shows more terminal columns than the
+///   width, or than 1 + 4 n if that is greater. This holds if each character takes at most one
+///   terminal column, and none is U+FE01. It also holds if each character takes at most two, none
+///   is U+FE01 or U+FE0E, and the width is at least 1 + 5 n. If the width is filled and has room
+///   for the frame, each of these lines shows exactly as many terminal columns as the width.
 ///
 /// The promises on the visible text and in the list hold if there are no looks and no heights.
 /// Columns may then be hidden or have a left or right side, but must have no other settings. With
-/// any looks, heights and columns, another promise holds for rows that are never expanded, in a
-/// table that isn't for Markdown. If there is a row, the lines of the table keep each promise on
-/// the lines of a table, as those of `drawn_cells` do. The line below the table that counts rows
-/// isn't one of these lines. The table is the one that `csvtable` draws of such rows, with the
-/// settings of columns, rows and cells.
+/// any looks, heights and columns, another promise holds for a table that isn't for Markdown and
+/// whose rows are never expanded. An expanded row is a table of its own. If there is a row, the
+/// lines of the table keep each promise on the lines of a table, as those of `drawn_cells` do. The
+/// line below the table that counts rows isn't one of these lines. The table is the one that
+/// `csvtable` draws of such rows, with the settings of columns, rows and cells.
 pub fn drawn_rows(
     alloc: Global,
     texts: &[u8],

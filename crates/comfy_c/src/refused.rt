@@ -26,9 +26,9 @@ use crate::rows_settings::{RowsSettings, expansion_at, separators_at};
 /// | 5 | looks, heights or settings of columns can't be combined with Markdown or expanded rows |
 ///
 /// A table for Markdown can't have looks, heights, centred columns, or columns with a width or with
-/// paddings other than 1. Nor can a table whose rows are expanded, or may be expanded. For such
-/// settings 5 is returned. If several settings are refused, the smallest of the numbers is
-/// returned. Texts, lengths and counts have no influence on the result.
+/// paddings other than 1. Nor can a table whose rows are expanded (each row is a table of its own),
+/// or may be expanded. For such settings 5 is returned. If several settings are refused, the
+/// smallest of the numbers is returned. Texts, lengths and counts have no influence on the result.
 #[unsafe(no_mangle)]
 pub extern "C" fn comfy_rows_refused(
     looks: &[LookNumbers],

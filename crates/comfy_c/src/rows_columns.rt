@@ -19,7 +19,8 @@ const HIDDEN: u32 = 3;
 
 const IN_THE_MIDDLE: u32 = 4;
 
-/// The settings of a column of a table of rows. Widths are in terminal columns.
+/// The settings of a column of a table that `comfy_rows_draw` draws. Widths are in terminal
+/// columns.
 #[derive(Clone, Copy, Debug)]
 #[repr(C)]
 pub struct RowsColumn {

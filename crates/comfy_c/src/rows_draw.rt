@@ -19,11 +19,11 @@ use std::alloc::Global;
 /// of 3 rows` if `limit` leaves rows out.
 ///
 /// `texts` has the texts of all cells in their order, without anything between them. `lengths` has
-/// the length of each text in bytes, and `counts` the number of cells of each row. The first row
-/// may be the header. `looks` has the alignment, the colours and the attributes of each text, and
-/// `heights` the greatest height of each row in lines. Both may be empty. With a height of 0 or
-/// `usize::MAX`, the `max_height` of the settings counts. The header's height has no effect.
-/// `columns` has the settings of the first columns, or of all.
+/// the length of each text in bytes, and `counts` the number of cells of each row. The first row is
+/// the header if `has_header` is set. `looks` has the alignment, the colours and the attributes of
+/// each text, and `heights` the greatest height of each row in lines. Both may be empty. With a
+/// height of 0 or `usize::MAX`, the `max_height` of the settings counts. The header's height has no
+/// effect. `columns` has the settings of the first columns, or of all.
 ///
 /// | Returned | Meaning | `needed` |
 /// |---|---|---|

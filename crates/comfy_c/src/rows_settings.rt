@@ -9,21 +9,22 @@ use crate::frame::{FrameNumbers, style_for};
 use crate::rows_columns::{RowsColumn, are_unset, have_sides};
 use csv_tables::{Expansion, Look, Noun, RowSeparators, Selection};
 
-/// The settings of a table of rows. A flag is set if it isn't 0.
+/// The settings of a table that `comfy_rows_draw` draws. A flag is set if it isn't 0.
 #[derive(Clone, Copy, Debug)]
 #[repr(C)]
 pub struct RowsSettings {
-    /// The greatest number of lines of a row below the header; longer rows are cut. 0 counts as 1,
-    /// and `usize::MAX` sets no limit.
+    /// The greatest number of lines of a row below the header; rows with more lines are cut. 0
+    /// counts as 1, and `usize::MAX` sets no limit.
     pub max_height: usize,
     /// The greatest number of rows below the header that are drawn. `usize::MAX` draws all rows.
     pub limit: usize,
     /// The frame: a preset by its position for `presets::by_position`, 13 for `UTF8_FULL` with
     /// round corners, or `u32::MAX` for a frame of the caller's own, in the field `frame`.
     pub style: u32,
-    /// The greatest width of the table, in terminal columns. A number above 65535 sets no width.
+    /// The width of the table in terminal columns. Texts are wrapped so that the table isn't wider,
+    /// if this width has room for its columns. A number above 65535 sets no width.
     pub width: u32,
-    /// A flag: the table is widened to `width`, even if its texts need less. The flag has no effect
+    /// A flag: a table that is narrower than `width` is widened to `width`. The flag has no effect
     /// if no width is set.
     pub fills_width: u32,
     /// The rule for the style's lines between rows: 0 draws them always, 1 only if a drawn row has
@@ -37,6 +38,8 @@ pub struct RowsSettings {
     /// A flag: the header is written in bold.
     pub has_bold_header: u32,
     /// A flag: a first column `#` shows the number of each row below the header, counted from 1.
+    /// Rows that are drawn as tables of their own don't have this column: the line above each of
+    /// them, such as `row 1 of 2`, has the number.
     pub is_numbered: u32,
     /// A flag: the decimal points of a column of numbers are put below each other, if the width has
     /// room for the spaces that this takes.

@@ -9,8 +9,9 @@ use csv_records::Records;
 use simdutf8::basic::from_utf8;
 use std::alloc::Global;
 
-/// Splits `texts` into texts of these lengths in bytes, and returns records with these texts as
-/// fields. `counts` has the number of fields of each record. The errors are those of `texts_of`.
+/// Splits `texts` into texts of the lengths in `lengths`, in bytes, and returns records with these
+/// texts as fields. `counts` has the number of fields of each record. The errors are those of
+/// `texts_of`.
 pub(crate) fn records_of(
     alloc: Global,
     texts: &[u8],
@@ -29,9 +30,10 @@ pub(crate) fn records_of(
     Ok(records.unwrap())
 }
 
-/// Splits `texts` into texts of these lengths in bytes. Returns `Lengths` if the lengths don't add
-/// up to the length of `texts`, or the counts don't add up to the number of lengths. Otherwise
-/// returns `NotUtf8` if a text isn't UTF-8. The only other error is `OutOfMemory`.
+/// Splits `texts` into texts of the lengths in `lengths`, in bytes. Returns `Lengths` if the
+/// lengths don't add up to the length of `texts`, or the counts don't add up to the number of
+/// lengths. Otherwise returns `NotUtf8` if a text isn't UTF-8. The only other error is
+/// `OutOfMemory`.
 pub(crate) fn texts_of<'a>(
     alloc: Global,
     texts: &'a [u8],

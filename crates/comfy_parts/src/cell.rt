@@ -174,7 +174,7 @@ impl Cell {
         self
     }
 
-    /// Adds an attribute, such as bold, to the end of the cell's list of attributes. In a drawing
+    /// Adds `attribute`, such as bold, to the end of the cell's list of attributes. In a drawing
     /// each attribute is written only once, and the attributes come in the order of the enumeration
     /// `Attribute`. After `OutOfMemory` the cell is dropped.
     ///
@@ -189,8 +189,8 @@ impl Cell {
         self.with_attributes(&[attribute])
     }
 
-    /// Adds these attributes in their order to the end of the cell's list of attributes, as
-    /// repeated calls of `add_attribute` do. After `OutOfMemory` the cell is dropped.
+    /// Adds `attributes` in their order to the end of the cell's list of attributes, as repeated
+    /// calls of `add_attribute` do. After `OutOfMemory` the cell is dropped.
     pub fn add_attributes(self, attributes: Vec<Attribute>) -> Result<Cell>
         ensures { IfOk result (λ cell. cell ≡ record self {
           attributes = self.attributes ++ attributes.items;

@@ -32,9 +32,8 @@ use std::alloc::Global;
 pub use width::measure_text_width;
 pub(crate) use width::{joined_columns, summed_columns};
 
-/// Splits a line at each occurrence of the delimiter. The parts are in order and without
-/// delimiters. A part may be empty, and an empty line has one empty part. The only error is
-/// `OutOfMemory`.
+/// Splits a line at each `delimiter`, and returns the parts in order, without delimiters. A part
+/// may be empty. An empty line has one part, which is empty. The only error is `OutOfMemory`.
 pub fn split_line_by_delimiter(alloc: Global, line: &str, delimiter: char) -> Result<Vec<&str>>
     ensures { IfOk result (λ v. map (λ x. x.now) v.items ≡ elements delimiter line.now) }
 {
@@ -48,10 +47,12 @@ pub fn split_line_by_delimiter(alloc: Global, line: &str, delimiter: char) -> Re
     Ok(parts)
 }
 
-/// Wraps a text line into lines for the content width of `info`. Each line begins at the next
-/// character that isn't a delimiter, and only delimiters are left out between lines. This holds for
-/// every text and delimiter, and for every width including 0. An empty text or one of delimiters
-/// alone has no lines. The only error is `OutOfMemory`.
+/// Wraps a text line into lines for the content width of `info`, in terminal columns. Texts break
+/// at `delimiter`; the delimiter in `info` isn't used. Delimiters at the front of the text and
+/// directly after a line are left out, and nothing else is left out. If the next grapheme cluster
+/// is wider than the width, the line is only the first character of the cluster, which may be too
+/// wide too. So every width is allowed, even 0. A text that is empty or has only delimiters has no
+/// lines. The only error is `OutOfMemory`.
 pub fn split_line(
     alloc: Global,
     line: &str,
@@ -70,8 +71,8 @@ pub fn split_line(
     Ok(lines)
 }
 
-/// The lines that `split_line` returns, borrowed from the text. The only error is `OutOfMemory`.
-/// There is no error if the text has only delimiters or is empty, because it then has no lines.
+/// The lines that `split_line` returns for these arguments, borrowed from the text `line`. The only
+/// error is `OutOfMemory`. A text that is empty or has only delimiters gives no lines and no error.
 pub fn split_line_ref<'a>(
     alloc: Global,
     line: &'a str,

@@ -97,10 +97,10 @@ pub fn head_is_longest()
     ensures { (k : ℕ) (text : Text) → HeadIsLongest k text }
 {}
 
-/// A space between any two texts adds one terminal column to their widths, in every script. So does
-/// each box or block character, `…`, and each printable ASCII character except `#`, `*` and the
-/// digits. If a text begins with such a character, its width and the width of any text before it
-/// add up.
+/// A space between any two texts adds one terminal column to their widths, in every script. Each
+/// box or block character, `…`, and each printable ASCII character except `#`, `*` and the digits
+/// adds one terminal column there too. If a text begins with such a character, its width and the
+/// width of any text before it add up.
 pub fn spaces_and_borders_add_one_column()
     ensures space { (front back : Text) → SpaceAddsOneColumn front back }
     ensures border { (c : ℕ) → FrameCharactersAddOneColumn c }
@@ -181,9 +181,9 @@ pub fn lines_leave_no_sequence_open()
     ensures cut { (text : Text) → ClosedTextsLeaveNone text }
 {}
 
-/// The colour sequences that are open before a visible character in the text that is written for a
-/// line are those that are open at this character in its cell. A sequence is open until the next
-/// `ESC[0m`, also in later text lines of the cell.
+/// In the text that is written for a line, the same colour sequences are open before each visible
+/// character as in the text of the line's cell. A sequence is open until the next `ESC[0m`, also in
+/// later text lines of the cell.
 pub fn active_sequences_are_resumed()
     ensures text { (earlier : List Text) (text : Text) (start len k : ℕ)
         → ActiveIsResumed earlier text start len k }

@@ -92,8 +92,8 @@ impl Row {
         Ok(RowReference { row: self })
     }
 
-    /// Appends a cell. After `OutOfMemory` the row is unchanged and the cell is dropped. Unlike
-    /// after `add_cell`, a proof of your own can use this fact.
+    /// Appends a cell. After `OutOfMemory` the row is unchanged and the cell is dropped, as with
+    /// `add_cell`. Only the contract of `try_add_cell` gives this fact to a proof of your own.
     pub fn try_add_cell(&mut self, cell: Cell) -> Result<()>
         ensures ok { OnOk result (self.new ≡ with_cell cell self.old) }
         ensures err { OnErr result (self.new ≡ self.old) }
@@ -127,7 +127,7 @@ impl Row {
         self
     }
 
-    /// The number of cells in the row, also in hidden columns.
+    /// The number of cells in the row, including cells in hidden columns.
     pub fn cell_count(&self) -> usize
         ensures value { result ≡ length self.now.cells }
         ensures is_row { IsRow self.now }

@@ -12,10 +12,10 @@ use comfy_parts::style::presets::by_name;
 
 const MOST_DIGITS: usize = 5;
 
-/// The settings that the arguments after the program's name mean: a width, an arrangement and a
-/// preset. `None` if an argument is unknown, or there are more than three arguments. Arguments at
-/// the end may be missing: then the width isn't set, the arrangement is `Disabled`, and the style
-/// is `ASCII_FULL`.
+/// The settings that `args`, the arguments after the program's name, mean: a width, an arrangement
+/// and a preset, in this order. `None` if an argument is unknown, or there are more than three
+/// arguments. Arguments at the end may be missing: then the width isn't set, the arrangement is
+/// `Disabled`, and the style is `ASCII_FULL`.
 pub fn settings_of(args: &[&str]) -> Option<Settings>
     ensures { result ≡ settings_for args.now }
 {

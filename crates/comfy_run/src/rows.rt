@@ -16,10 +16,11 @@ const BREAK: char = '\u{b}';
 // The number of bytes that are tested together.
 const BLOCK: usize = 16;
 
-/// Makes the row of a line. TABs separate the cells of the line, and U+000B inside a cell means a
-/// line feed. Memory for `count` cells is taken first, usually the number of cells in the line
-/// before. If the line has exactly `count` cells, the row takes no more memory than it needs. The
-/// only error is `OutOfMemory`.
+/// Makes the row of an input line. TABs separate the cells of the line, and U+000B inside a cell
+/// means a line feed. An empty line gives one empty cell. `count` is an estimate of the number of
+/// cells, such as their number in the line before: memory for `count` cells is taken first. Any
+/// `count` gives the same row. If the line has exactly `count` cells, the row takes no more memory
+/// than it needs. The only error is `OutOfMemory`.
 pub fn row_of(alloc: Global, line: &str, count: usize) -> Result<Row>
     ensures { IfOk result (λ row. row ≡ row_of_line line.now) }
 {

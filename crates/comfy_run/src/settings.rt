@@ -15,8 +15,8 @@ use comfy_parts::style::{ContentArrangement, TableStyle};
 pub struct Settings {
     /// The width of the table in terminal columns; `None` if no width is set.
     pub width: Option<u16>,
-    /// The rule by which the widths of the columns are found. The dynamic arrangements keep to the
-    /// table's width, and act as `Disabled` if no width is set.
+    /// The rule by which the widths of the columns are found. `Dynamic` and `DynamicFullWidth` wrap
+    /// texts so that the table keeps to `width`, and act as `Disabled` if no width is set.
     pub arrangement: ContentArrangement,
     /// The characters of the frame.
     pub style: TableStyle,

@@ -23,7 +23,7 @@ needs_in table v =
       longest = longest_line table v.position v.column.now.delimiter;
     }
 
--- the needs of all shown columns, in list order
+-- the needs of all shown columns, in the order of the table's columns
 abbrev pub all_needs : TableValue → List WidthNeeds → List ColumnNeeds
 all_needs table columns = map (needs_in table) columns
 
@@ -92,7 +92,7 @@ HasSettled needs old new =
 abbrev pub decided : List (Option ℕ) → List ℕ
 decided widths = map (λ (w : Option ℕ). unwrap_or w 0) widths
 
--- the widths, with these parts for the undecided columns, in list order
+-- the widths, with these parts for the undecided columns, in the order of the table's columns
 abbrev pub filled : List (Option ℕ) → List ℕ → List ℕ
 filled [] parts = []
 filled (Some w ∷ widths) parts = w ∷ filled widths parts

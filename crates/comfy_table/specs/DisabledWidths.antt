@@ -11,6 +11,6 @@ abbrev pub width_by_content : TableValue → ℕ × ColumnValue → ℕ
 width_by_content table p =
     if is_hidden_column p.1 then max 1 (column_content_width table p.0) else disabled_width table p
 
--- the widths of all columns, in list order
+-- the widths of all columns, in the order of the table's columns
 abbrev pub widths_by_content : TableValue → List ℕ
 widths_by_content table = map (width_by_content table) (enumerate_from 0 table.columns)

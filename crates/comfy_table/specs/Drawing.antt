@@ -10,11 +10,12 @@ use Rattle.comfy_table.specs.Frame.{content_line, optional_frame_line}
 use Rattle.comfy_table.specs.Pieces.{row_lines, shown_infos}
 use Rattle.comfy_table.specs.TableValue.{TableValue}
 
--- each column with its content width and settings, in list order, including hidden columns
+-- each column with its content width and settings, in the order of the table's columns, including
+-- hidden columns
 abbrev pub infos_of : TableValue → List ℕ → List ColumnInfo
 infos_of table widths = map (λ (p : ColumnValue × ℕ). info_of p.0 p.1) (zip table.columns widths)
 
--- the whole widths of the shown columns, in list order
+-- the whole widths of the shown columns, in the order of the table's columns
 abbrev pub outer_widths : List ColumnInfo → List ℕ
 outer_widths infos = map (λ (p : ℕ × ColumnInfo). info_width p.1) (shown_infos infos)
 
@@ -71,7 +72,8 @@ module _ (table : TableValue) (infos : List ColumnInfo) where
       ++ (drawn_rows table.rows ++ optional_frame_line table.style table.style.bottom_border
       (outer_widths infos)))
 
--- the drawing of a table whose columns have these content widths, in list order
+-- the drawing of a table whose columns have these content widths, in the order of the table's
+-- columns
 abbrev pub drawing : TableValue → List ℕ → List Text
 drawing table widths = drawing_of_infos table (infos_of table widths)
 

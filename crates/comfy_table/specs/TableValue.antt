@@ -207,7 +207,7 @@ widened table (cell ∷ cells) (width ∷ widths) =
 abbrev pub column_content_width : TableValue → ℕ → ℕ
 column_content_width table i = greatest (map cell_content_width (column_cells table i))
 
--- the content of each column, in list order
+-- the content of each column, in the order of the table's columns
 abbrev pub max_content_widths : TableValue → List ℕ
 max_content_widths table =
     map (column_content_width table) (range_with_len 0 (length table.columns))

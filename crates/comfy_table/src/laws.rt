@@ -3,8 +3,9 @@
 //! the function. `IsArranged table widths` means that the columns of a table have these content
 //! widths, which `arrange_content` returns. The laws of wrapping are re-exported here too.
 //!
-//! In the laws of widths, the *content* of a column is the width of its widest text line, at most
-//! 65535 terminal columns. The *room* is the table's width less all borders and paddings.
+//! A column is *shown* if it isn't hidden. In the laws of widths, the *content* of a column is the
+//! width of its widest text line, at most 65535 terminal columns. The *room* is the table's width
+//! less the borders and the paddings of the shown columns.
 
 ghost use Rattle.std.specs.Prelude.{ℕ, Bool, List};
 ghost use Rattle.comfy_parts.specs.CellValue.{CellValue, ColumnInfo, ColumnValue, NoFewerColumns, RowValue};
@@ -76,10 +77,15 @@ pub fn tables_without_controls_have_no_escape()
 {}
 
 /// A table is straight (`IsStraightTable`), so that all its lines are equally wide, under these
-/// conditions on single characters. Each character of each text is at most as wide as its column,
-/// and U+FE01 is nowhere directly next to U+FE0E or U+FE0F. Each delimiter and each character of
-/// the style adds one terminal column. The texts of two columns never touch. If a row has a
-/// greatest height, the indicator adds its own width to any text before it.
+/// conditions:
+///
+/// - Each character of a shown text is at most as wide as its column, and U+FE01 is nowhere
+///   directly next to U+FE0E or U+FE0F.
+/// - Each delimiter and each character of the style adds one terminal column.
+/// - Vertical lines are drawn, or each shown column has a padding on its left, or each has one on
+///   its right.
+/// - No row has a greatest height, or the truncation indicator adds its own width to any text
+///   before it.
 pub fn tables_of_fitting_characters_are_straight()
     ensures { (table : TableValue) (lines : List Text) → FittingTablesAreStraight table lines }
 {}
@@ -116,10 +122,10 @@ pub fn widths_keep_to_the_width()
 
 /// This law is `widths_keep_to_the_width` for columns with any constraints. Let W be the table's
 /// width. Let T be the terminal columns of borders and paddings, plus a number for each shown
-/// column. The number is the width without paddings that a constraint fixes or a lower boundary
-/// decides, and 1 for any other column. Under `Dynamic` the borders and the widths of the shown
-/// columns, with paddings, are together at most max(W, T). Under `DynamicFullWidth` this sum is
-/// exactly max(W, T), if a column is shown.
+/// column. If a column's constraint fixes its width, or its lower boundary decides its width, the
+/// number is this width without paddings. For any other column the number is 1. Under `Dynamic` the
+/// borders and the widths of the shown columns, with paddings, are together at most max(W, T).
+/// Under `DynamicFullWidth` this sum is exactly max(W, T), if a column is shown.
 pub fn widths_keep_to_the_wider_total()
     ensures dynamic { (table : TableValue) (w : ℕ) (widths : List ℕ)
         → KeepsToWiderTotal table w widths }
@@ -135,49 +141,47 @@ pub fn dynamic_widths_are_one_list()
         → DynamicIsOne room columns full widths others }
 {}
 
-/// The room is the table's width less its borders and paddings, and the content of a column is the
-/// width of its widest text line. Let no shown column have a constraint, and let the room be at
-/// least one terminal column for each shown column. Then there is a number of terminal columns, the
-/// level, which is at least an even share of the room. Under `Dynamic`, a column whose content is
-/// at most the level is as wide as its content, but at least 1. Any other column is at least as
-/// wide as the level, or as wide as its longest line at some width of at least the level. Under
-/// `DynamicFullWidth` the rest of the room is then added evenly to these widths. If the room isn't
-/// enough, all widths are 1.
+/// Let no shown column have a constraint, and let at least one column be shown. If the room is less
+/// than one terminal column for each shown column, all widths are 1. Otherwise there is a number of
+/// terminal columns, the *level*, which is at least an even share of the room. Under `Dynamic`, a
+/// column whose content is at most the level is as wide as its content, but at least 1. Any other
+/// column is at least as wide as the level, or as wide as its longest wrapped line. This is the
+/// longest line if the cells are wrapped at some width of at least the level. Under
+/// `DynamicFullWidth` the room that is left is then added evenly to these widths.
 pub fn dynamic_widths_are_levelled()
     ensures dynamic { (table : TableValue) (w : ℕ) (widths : List ℕ)
         → TableIsLevelled table w widths }
     ensures full { (table : TableValue) (w : ℕ) (widths : List ℕ) → TableIsFull table w widths }
 {}
 
-/// The level of the law `dynamic_widths_are_levelled`, which is a number of terminal columns, is
-/// the greatest that is possible. Let the arrangement be `Dynamic`, let no shown column have a
-/// constraint, and let the widest text line of some column be wider than the level. Then the room
-/// isn't enough to give each column the lesser of two widths: that of its widest text line, and one
-/// terminal column more than the level. The room is the table's width less its borders and
-/// paddings.
+/// The level of the law `dynamic_widths_are_levelled` can't be raised by one terminal column. Let
+/// the conditions of that law for `Dynamic` hold, and let the content of some shown column be wider
+/// than the level. Give each shown column its content, or the level plus 1 if that is less, but at
+/// least 1. The room isn't enough for these widths.
 #[tactic(auto, using(crate::proofs::TableLemmas::table_level_is_best))]
 pub fn the_level_is_the_best()
     ensures { (table : TableValue) (w level : ℕ) (widths : List ℕ)
         → TableLevelIsBest table w level widths }
 {}
 
-/// Let no shown column have a constraint, and let the borders, paddings and contents of the shown
-/// columns together be at most the table's width. Then `Dynamic` makes each shown column as wide as
-/// its content, but at least 1. The content of a column is the width of its widest text line.
+/// Let no shown column have a constraint, and let the sum of the contents of the shown columns be
+/// at most the room. A content of 0 counts as 1. Then `Dynamic` makes each shown column as wide as
+/// its content, but at least 1.
 pub fn contents_that_fit_are_kept()
     ensures { (table : TableValue) (w : ℕ) (widths : List ℕ) → TableKeepsContents table w widths }
 {}
 
 /// Let texts and delimiters be printable ASCII, let no shown column have a constraint, and let the
 /// table's width be at most 65535. Then `Dynamic` makes no shown column more than three terminal
-/// columns wider than its content, which is the width of its widest text line.
+/// columns wider than its content.
 pub fn columns_are_at_most_three_wider()
     ensures { (table : TableValue) (w : ℕ) (widths : List ℕ) → IsAtMostThreeOver table w widths }
 {}
 
-/// Let the texts and delimiters of a column be printable ASCII, and let its longest line leave at
-/// least three terminal columns of the column free. If the column is made as narrow as this line,
-/// its cells have the same lines, except for at most one delimiter at the end of each line.
+/// Let the texts and delimiters of a column be printable ASCII, and let the longest of its wrapped
+/// lines leave at least three terminal columns of the column free. Make the column as narrow as
+/// this line, but at least 1 terminal column wide. Its cells then have the same lines, except for
+/// at most one delimiter at the end of each line.
 #[tactic(auto, using(crate::proofs::ColumnLemmas::shrinking_keeps_cells))]
 pub fn shrinking_keeps_the_lines()
     ensures { (table : TableValue) (p : ℕ × ColumnValue) (b : ℕ) → ShrinkingKeepsCells table p b }
@@ -201,10 +205,9 @@ pub fn drawings_are_one()
 
 /// The lines that a table already had don't change if a row is added at its end. The lines of the
 /// new row come directly above the bottom border, after a row separator if the table already had a
-/// row. This holds for two drawings with the same widths of columns, if each cell of the new row
-/// has a column. If the table keeps to no width, as under `Disabled`, this holds for all drawings.
-/// Each cell of the new row must then also be at most as wide as the widest text line in its
-/// column.
+/// row. Each cell of the new row must have a column. The law holds for two drawings with the same
+/// widths of columns. It also holds for all drawings of a table that keeps to no width, as under
+/// `Disabled`. No cell of the new row may then be wider than the content of its column.
 pub fn shown_lines_stay()
     ensures same_widths { (table : TableValue) (row : RowValue) (widths : List ℕ)
         → RowIsAddedBelow table row widths }

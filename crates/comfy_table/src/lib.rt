@@ -28,9 +28,10 @@ pub use table::row_writer::RowWriter;
 pub use table::terminal::Terminal;
 pub use utils::formatting::drawing::PartEnds;
 
-/// A row of values of different types, as an array of cells. Each value has a type from which a
-/// cell can be made (`IntoCell`). The macro uses `?`, so call it in a function that returns a
-/// `Result`. The only error is `OutOfMemory`.
+/// Makes a row of values that may have different types, as an array of cells. The allocator comes
+/// first, with a semicolon after it. Each value has a type from which a cell can be made
+/// (`IntoCell`). The macro uses `?`, so call it in a function that returns a `Result`. The only
+/// error is `OutOfMemory`.
 ///
 /// ```
 /// table.add_row(row![alloc; "17", 12u32, true])?;

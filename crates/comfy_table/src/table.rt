@@ -169,7 +169,8 @@ impl Table {
 
     /// Replaces the header. Then appends columns with default settings until the table has at least
     /// as many columns as the header has cells. After `OutOfMemory` the table is unchanged and the
-    /// new header is dropped. Unlike after `set_header`, a proof of your own can use this fact.
+    /// new header is dropped, as with `set_header`. Only the contract of `try_set_header` gives
+    /// this fact to a proof of your own.
     pub fn try_set_header<T: IntoRow>(&mut self, row: T) -> Result<()>
         ensures ok { OnOk result (self.new ≡ with_header (T.row_of row) self.old) }
         ensures err { OnErr result (self.new ≡ self.old) }
@@ -182,7 +183,8 @@ impl Table {
 
     /// Appends a row. Then appends columns with default settings until the table has at least as
     /// many columns as the row has cells. After `OutOfMemory` the table is unchanged and the row is
-    /// dropped. Unlike after `add_row`, a proof of your own can use this fact.
+    /// dropped, as with `add_row`. Only the contract of `try_add_row` gives this fact to a proof of
+    /// your own.
     pub fn try_add_row<T: IntoRow>(&mut self, row: T) -> Result<()>
         ensures ok { OnOk result (self.new ≡ with_row (T.row_of row) self.old) }
         ensures err { OnErr result (self.new ≡ self.old) }

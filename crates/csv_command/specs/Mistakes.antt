@@ -106,6 +106,17 @@ abbrev pub filter_reason : Text
 filter_reason =
     codes "csvtable doesn't filter; try mlr --csv filter '$COLUMN < 0' FILE | csvtable"
 
+-- the message about an option that other programs have for wrapping, sorting or filtering
+abbrev pub reason_elsewhere : Text → Option Text
+reason_elsewhere option =
+    if bytes_eq option (codes "--no-wrap")
+    then Some no_wrap_reason
+    else if bytes_eq option (codes "--sort")
+    then Some sort_reason
+    else if bytes_eq option (codes "--filter")
+    then Some filter_reason
+    else None
+
 -- the message about other options, by the word after them
 abbrev pub reason_without_number : Text → Text → Option Text
 reason_without_number option word =
@@ -113,13 +124,7 @@ reason_without_number option word =
     then Some (limit_reason word)
     else if bytes_eq option (codes "-e") || bytes_eq option (codes "--encoding")
     then encoding_reason word
-    else if bytes_eq option (codes "--no-wrap")
-    then Some no_wrap_reason
-    else if bytes_eq option (codes "--sort")
-    then Some sort_reason
-    else if bytes_eq option (codes "--filter")
-    then Some filter_reason
-    else None
+    else reason_elsewhere option
 
 -- the message about an option and the word after it
 abbrev pub reason_of : Text → Text → Option Text

@@ -29,11 +29,11 @@ const ONE_FILE: &str = "csvtable draws one file; try mlr --csv cat FILE FILE | c
 pub struct Options {
     /// The options for reading the input.
     pub input: InputOptions,
-    /// True if an input is read to its end even if `selection` has a limit, so that all its records
+    /// True if the input is read to its end even if `selection` has a limit, so that all records
     /// can be counted.
     pub counts_all: bool,
-    /// The header of the records, the greatest number of records that are drawn, and the way in
-    /// which records are counted.
+    /// The choice of the records that are drawn: whether the first record is the header, how many
+    /// records are drawn, and how records are counted.
     pub selection: Selection,
     /// The words that choose the columns that are drawn, and the words that choose their alignment.
     pub columns: ColumnWords,
@@ -86,9 +86,10 @@ pub struct OutputContext<'a> {
     pub no_color: Option<&'a str>,
 }
 
-/// Returns the options and the file that the arguments give. The first argument is the program's
-/// name. Of two options that contradict each other, the last option counts. The result depends only
-/// on the values that clap finds in the arguments, and on `context`.
+/// Returns the options and the file that `arguments` give. The first argument is the program's
+/// name. `context` decides the width and the bold header if no option does. Of two options that
+/// contradict each other, the last option counts. The result depends only on the values that clap
+/// finds in the arguments, and on `context`.
 ///
 /// # Errors
 ///

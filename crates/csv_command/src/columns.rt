@@ -1,4 +1,4 @@
-//! The columns that the words of arguments choose.
+//! Finds the columns that the words in arguments choose.
 
 ghost use Rattle.std.specs.Prelude.{◌≡◌, ◌<◌, ◌≤◌, ◌-◌, ◌^◌, IfOk, IfErr, IfSome, Ok, length, string_bytes};
 ghost use Rattle.std.specs.List.{range_with_len};
@@ -13,22 +13,25 @@ use std::alloc::{AllocError, Global};
 /// Lists of words that choose columns: the values of the options `-c`, `--drop`, `-r` and `--left`.
 ///
 /// If a list has several words, and a column's name is all of these words joined by commas, the
-/// list chooses the first such column. Otherwise each word is tried as the number of a column,
-/// counted from 1. Then it is tried as a name, and last as a range with a hyphen. Each end of a
-/// range is a number or a name. If nothing follows the hyphen, the range ends with the last column.
-/// In a word with several hyphens, the first hyphen counts that has existing columns on both sides,
-/// and whose left column isn't after the right column.
+/// list chooses the first such column. In any other case, each word is tried as the number of a
+/// column, counted from 1. Then the word is tried as a name, and last as a range with a hyphen.
+/// Each end of a range is a number or a name. If nothing follows the hyphen, the range ends with
+/// the last column. In a word with several hyphens, the first hyphen counts that has existing
+/// columns on both sides, and whose left column isn't after the right column.
 #[derive(Debug)]
 pub struct ColumnWords {
-    /// The columns to draw, in this order. If the list is empty, all columns are drawn up to the
-    /// last one that has a name or a field that isn't empty.
+    /// The words that choose the columns to draw. Columns are drawn in the order in which the words
+    /// choose them. If the list is empty, all columns are drawn up to the last column that has a
+    /// name or a field that isn't empty.
     pub chosen: Vec<String>,
-    /// The columns that aren't drawn, even if `chosen` has them. An empty list drops no column.
+    /// The words that choose the columns that aren't drawn, even if `chosen` chooses them too. An
+    /// empty list drops no column.
     pub dropped: Vec<String>,
-    /// The columns that are right-aligned, whatever their fields are.
+    /// The words that choose the columns that are right-aligned, whatever fields these columns
+    /// have.
     pub right: Vec<String>,
-    /// The columns that are left-aligned, whatever their fields are. A column in both `right` and
-    /// `left` is an error.
+    /// The words that choose the columns that are left-aligned, whatever fields these columns have.
+    /// A column that both `right` and `left` choose is an error.
     pub left: Vec<String>,
 }
 

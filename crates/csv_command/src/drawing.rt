@@ -42,12 +42,12 @@ impl From<AllocError> for Refusal {
     }
 }
 
-/// Returns the output of `csvtable` for these arguments, the option `--count`, and this input. The
-/// first argument is the program's name. The output goes to no terminal, and the environment has
-/// neither `COLUMNS` nor `NO_COLOR`.
+/// Returns the output of `csvtable` for `arguments` with the option `--count`, and for an input of
+/// the bytes `input`. The first argument is the program's name. The output goes to no terminal, and
+/// the environment has neither `COLUMNS` nor `NO_COLOR`.
 ///
-/// No file is opened. An argument for a file names the input in messages, and its extension may set
-/// the delimiter.
+/// No file is opened. An argument for a file names the input in messages, and the extension of this
+/// name may set the delimiter. The error is the reason why there is no drawing (`Refusal`).
 ///
 /// ```
 /// let drawing = render_csv(rt.alloc(), &["csvtable", "-s", "grid"], b"a,b\n1,2\n")?;

@@ -50,7 +50,7 @@ pub(crate) struct Ending {
     pub status: u8,
     /// True if the message goes to standard error, and false if it goes to standard output.
     pub is_message: bool,
-    /// The text that the program writes last. With `Message::Nothing` it writes no text.
+    /// The text that the program writes last. With `Message::Nothing` the program writes no text.
     pub message: Message,
 }
 
@@ -88,13 +88,14 @@ impl Message {
     }
 }
 
-/// The result of a run of the program that was to draw an input.
+/// The result of drawing an input, or of the attempt to draw it.
 #[derive(Drop)]
 pub(crate) struct Outcome<'a> {
-    /// The options and the file that the arguments of the run give.
+    /// The options and the file that the program's arguments give.
     pub invocation: &'a Invocation,
-    /// A report of the drawn records that have more fields than the header, if the drawing was
-    /// written, or an error. `Ok(None)` if no drawn record has more fields.
+    /// A report of the drawn records that have more fields than the header, or `Ok(None)` if no
+    /// drawn record has more fields. The error is the reason why no drawing, or only a part of it,
+    /// was written.
     pub result: Result<Option<LongRecords>, CsvError>,
     /// The error on opening or reading the input. `None` if there was no such error.
     pub fault: Option<io::ErrorKind>,

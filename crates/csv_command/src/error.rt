@@ -31,9 +31,9 @@ pub enum ColumnsError {
     OutOfMemory,
 }
 
-/// The reason why a drawing wasn't written, or only a part of the drawing. If memory ran out, the
-/// variant is always `CsvError::OutOfMemory`, and never the `OutOfMemory` of an error inside
-/// another variant.
+/// The reason why a drawing wasn't written, or why only a part of the drawing was written. If
+/// memory ran out, the variant is always `CsvError::OutOfMemory`, and never the `OutOfMemory` of an
+/// error inside another variant.
 #[derive(Debug, Drop, Error)]
 pub enum CsvError {
     /// Reading the input failed.

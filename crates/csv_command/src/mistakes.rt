@@ -2,7 +2,7 @@
 //! programs.
 
 ghost use Rattle.std.specs.Prelude.{◌≡◌, IfOk, Some, map, option_map, string_bytes};
-ghost use Rattle.csv_command.specs.Mistakes.{encoding_reason, given, in_one_word, is_number_to, number_reason, reason_of, split_letter, with_value, wrong_delimiter, wrong_value};
+ghost use Rattle.csv_command.specs.Mistakes.{encoding_reason, given, in_one_word, is_number_to, number_reason, reason_elsewhere, reason_of, split_letter, with_value, wrong_delimiter, wrong_value};
 
 use crate::options::{greatest_number, is_encoding};
 use std::alloc::{AllocError, Global};
@@ -105,10 +105,23 @@ fn reason_of(alloc: Global, option: &str, word: &str) -> Result<Option<String>, 
             )?))
         }
         (None, "-e" | "--encoding") => reason_of_encoding(alloc, word),
-        (None, "--no-wrap") => Ok(Some(String::from_str(alloc, NO_WRAP)?)),
-        (None, "--sort") => Ok(Some(String::from_str(alloc, SORT)?)),
-        (None, "--filter") => Ok(Some(String::from_str(alloc, FILTER)?)),
+        (None, _) => match reason_elsewhere(option) {
+            Some(reason) => Ok(Some(String::from_str(alloc, reason)?)),
+            None => Ok(None),
+        },
         _ => Ok(None),
+    }
+}
+
+// The message about an option that other programs have for wrapping, sorting or filtering.
+fn reason_elsewhere(option: &str) -> Option<&'static str>
+    ensures { option_map (λ reason. reason.now) result ≡ reason_elsewhere option.now }
+{
+    match option {
+        "--no-wrap" => Some(NO_WRAP),
+        "--sort" => Some(SORT),
+        "--filter" => Some(FILTER),
+        _ => None,
     }
 }
 

@@ -19,16 +19,16 @@ use csv_tables::{Layout, RecordDrawing, Selection, drawn_records};
 use devices::{Render, Rendered, Sink, Source};
 use std::alloc::Global;
 
-/// Reads the source, and writes the table of its records to the sink, with a line feed after each
-/// line. If not all records are drawn, the last line reports the number of all records.
+/// Reads `source`, and writes the table of its records to `sink`, with a line feed after each line.
+/// If not all records are drawn, the last line reports the number of all records. An input without
+/// records has an empty output.
 ///
-/// The source is read whole, unless there is a limit and `counts_all` is false. In this case the
-/// first 65536 bytes are tried, then the first 131072, and so on. Reading stops if the complete
-/// lines of these bytes have more records than are drawn, and show the delimiter. The last line of
-/// the drawing then says only that there are more records. The rest of the source isn't checked.
-/// The drawing doesn't depend on the sizes in which the source delivers its bytes.
-///
-/// An input without records has an empty output.
+/// The source is read whole, unless `options.selection` has a limit and `options.counts_all` is
+/// false. In this case the first 65536 bytes are tried, then the first 131072, and so on. Reading
+/// stops if the complete lines of these bytes have more records than are drawn, and show the
+/// delimiter. The last line of the drawing then says only that there are more records. The rest of
+/// the source isn't checked. The drawing doesn't depend on the sizes in which the source delivers
+/// its bytes.
 ///
 /// Returns a report of the drawn records that have more fields than the header, or `None` if no
 /// drawn record has more fields.
@@ -147,9 +147,9 @@ fn output_of(
     Ok(drawn_records(alloc, records, count, &layout)?)
 }
 
-/// Returns the output for a whole input: the table of its records, or an empty text if there are no
-/// records. All records are counted, even if `counts_all` is false. The errors are those of `draw`
-/// except `Read` and `Write`.
+/// Returns the output for an input of the bytes `input`: the table of its records, or an empty text
+/// if there are no records. All records are counted, even if `options.counts_all` is false. The
+/// errors are those of `draw` except `Read` and `Write`.
 pub fn output_of_input(alloc: Global, input: Vec<u8>, options: &Options) -> Result<String, CsvError>
     ensures output { IfOk result (λ output.
         RendersInput options.now input.items (string_bytes output)) }

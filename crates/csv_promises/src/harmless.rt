@@ -9,8 +9,8 @@ use csv_command::{CsvError, Invocation, Options, OutputContext, Refusal, draw, p
 use devices::{MemorySink, MemorySource};
 use std::alloc::Global;
 
-/// Returns the parsed arguments, and the output of `csvtable` for these arguments and a file with
-/// the bytes `input`. The promise holds for all bytes and every terminal. The visible text is the
+/// Returns the parsed arguments, and the output of `csvtable` for `arguments` and a file with the
+/// bytes `input`. The promise holds for all bytes and every terminal. The visible text is the
 /// output without sequences for colours and attributes. Line feeds are the only control characters
 /// of the visible text, and no character of it turns the direction of text.
 ///
@@ -34,9 +34,9 @@ pub fn harmless_output(
     Some((invocation, sink))
 }
 
-/// Returns the drawing that `render_csv` returns for these arguments and this input. The visible
-/// text is the drawing without sequences for colours and attributes. Line feeds are the only
-/// control characters of the visible text, and no character of it turns the direction of text.
+/// Returns the drawing that `render_csv` returns for `arguments` and `input`. The visible text is
+/// the drawing without sequences for colours and attributes. Line feeds are the only control
+/// characters of the visible text, and no character of it turns the direction of text.
 ///
 /// Returns `None` if the arguments request no drawing, if the input can't be drawn, or if memory
 /// runs out.

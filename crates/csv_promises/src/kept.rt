@@ -15,25 +15,26 @@ use std::alloc::Global;
 /// drawn record. Each field is cleaned: control characters, and characters that turn the direction
 /// of text, are replaced. The cleaned field is alone in its column, between spaces. It is whole, or
 /// in slices that end at the ends of wrapped lines and leave out only spaces. If records are
-/// expanded, each record is such a table of its names and fields, below a line with its number. If
-/// the header is bold, the sequences that begin and end bold are in the pieces of the header, or of
-/// the names of expanded records. If not all records are drawn, a line below the table counts the
+/// expanded, each record is a table of its own in this style, with one row for each drawn field and
+/// its column's name. A line with the record's number is above this table. If the header is bold,
+/// sequences that begin and end bold surround the parts of lines that have texts of the header, or
+/// names of expanded records. If not all records are drawn, a line below the table counts the
 /// records.
 ///
 /// A column is right-aligned if each of its drawn fields is a number or neutral, such as `n/a`, and
-/// at least one is a number. `--right` and `--left` override this. In a right-aligned column with a
-/// decimal mark, spaces after shorter fractions put the marks below each other, unless
-/// `--no-decimal` is given. This may be left out if a width is set. The fields of expanded records
-/// are left-aligned.
+/// at least one is a number. The options `--right` and `--left` override this rule. In a
+/// right-aligned column with a decimal mark, spaces after shorter fractions put the marks below
+/// each other, unless `--no-decimal` is given. These spaces may be left out if a width is set. The
+/// fields of expanded records are left-aligned.
 ///
 /// Under `--expanded auto`, fields of columns of numbers and dates aren't split over lines, if
-/// records aren't expanded. In such a column each field is neutral, a number or date of at most 25
-/// characters, or a time stamp of at most 35. The column is at least as wide as its widest field.
-/// The column of record numbers is at least as wide as its widest number. If no width is set, every
-/// column is at least as wide as its widest text, including the header, also if records are
-/// expanded. A text of more than 65535 terminal columns counts as a text of 65535. In an expanded
-/// record a number or date isn't split if the width has room for it beside borders, paddings and
-/// four terminal columns for names.
+/// records aren't expanded. In a column of numbers and dates each field is neutral, a number or
+/// date of at most 25 characters, or a time stamp of at most 35. The column is at least as wide as
+/// its widest field. The column of record numbers is at least as wide as its widest number. If no
+/// width is set, every column is at least as wide as its widest text, including the header, even if
+/// records are expanded. A text of more than 65535 terminal columns counts as a text of 65535. In
+/// an expanded record a number or date isn't split if the width has room for it beside borders,
+/// paddings and four terminal columns for names.
 ///
 /// Returns `None` if the arguments request `--ansi`, Markdown, a greatest height or no drawing.
 /// Also returns `None` if the whole input can't be read or drawn, if the output has more than

@@ -11,10 +11,10 @@ use std::alloc::Global;
 
 /// Returns the parsed arguments, the records of a file with the bytes `input`, and the output of
 /// `csvtable` for this file as Markdown. The output has a line for the names, a rule with a part
-/// for each column, and one line for each drawn record. A reader of a line splits it at its bars. A
-/// backslash means the character after it, and `<br>` means a line break. The reader then gets the
-/// cleaned fields of the record, without the spaces at their ends. If not all records are drawn, an
-/// empty line and a line that counts the records follow.
+/// for each column, and one line for each drawn record. A reader of the table splits each line at
+/// its bars. A backslash means the character after it, and `<br>` means a line break. The reader
+/// then gets the cleaned fields of the record, without the spaces at their ends. If not all records
+/// are drawn, an empty line and a line that counts the records follow.
 ///
 /// The promise requires that no line of a field, as it is written, takes more than 65535 terminal
 /// columns. Returns `None` unless the arguments request `--markdown` without `--ansi`. Also returns

@@ -15,13 +15,13 @@ use std::alloc::Global;
 
 /// Returns the parsed arguments, the records of a file with the bytes `input`, and the output of
 /// `csvtable` for this file. All lines of the output show the same number of terminal columns,
-/// except those that count records. This holds under every width and height, with a bold header,
-/// and if records are expanded.
+/// except those that count records. This promise holds under every width and height, with a bold
+/// header, and if records are expanded, which means that each is a table of its own.
 ///
 /// The promise requires that each character of each field takes at most one terminal column, and
-/// none is U+FE01. Returns `None` if the arguments request `--ansi`, Markdown or no drawing. Also
-/// returns `None` if the whole input can't be read or drawn, if the output has more than `room`
-/// bytes, or if memory runs out.
+/// that no character is U+FE01. Returns `None` if the arguments request `--ansi`, Markdown or no
+/// drawing. Also returns `None` if the whole input can't be read or drawn, if the output has more
+/// than `room` bytes, or if memory runs out.
 pub fn straight_output(
     alloc: Global,
     arguments: &[&str],
@@ -65,9 +65,9 @@ pub fn straight_fitting_output(
 ///
 /// The promise requires that each character of each field takes at most two terminal columns, as
 /// every character except U+17D8 does. No character may be U+FE01 or U+FE0E. The width must be at
-/// least 1 + 5 n terminal columns. Here n is 2 if records are always expanded, or if they may be
-/// expanded and a record is drawn. Otherwise n is the number of drawn columns, including that of
-/// record numbers.
+/// least 1 + 5 n terminal columns. Here n is 2 if records are always expanded (each is a table of
+/// its own), or if they may be expanded and a record is drawn. Otherwise n is the number of drawn
+/// columns, including that of record numbers.
 pub fn straight_wide_output(
     alloc: Global,
     arguments: &[&str],

@@ -22,10 +22,11 @@ const LINE_FEED: u8 = b'\n';
 /// this beginning.
 ///
 /// Only the complete lines of `read` are used. `None` means that these lines aren't enough, and
-/// that more of the input has to be read. Such lines hold at most `most` records, end inside
-/// quotes, don't show the delimiter of the input, or can't be decoded or split into records. The
-/// result is always `None` for UTF-16, for `Delimiter::Spaces`, and for lines that end with
-/// carriage returns alone. The only error is that memory runs out.
+/// that more of the input has to be read. Lines aren't enough if they have at most `most` records,
+/// end inside quotes or don't show the delimiter of the input. Lines that can't be decoded or split
+/// into records aren't enough either. The result is always `None` for UTF-16, for
+/// `Delimiter::Spaces`, and for lines that end with carriage returns alone. The only error is that
+/// memory runs out.
 pub fn read_beginning(
     alloc: Global,
     read: &[u8],

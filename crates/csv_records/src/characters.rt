@@ -3,7 +3,7 @@
 ghost use Rattle.std.specs.Prelude.{◌≡◌, ◌<◌, ◌++◌, ◌∷◌, [], IfNone, IfSome, chars, encode_utf8, length};
 ghost use Rattle.csv_records.specs.Number.{without_first};
 
-/// The first character of a text, and the text after it, or `None` if the text is empty.
+/// The first character of `text`, and the text after this character. `None` if `text` is empty.
 pub fn split_first(text: &str) -> Option<(char, &str)>
     ensures some { IfSome result (λ parts. text.now ≡ encode_utf8 parts.0 ++ parts.1.now) }
     ensures characters { IfSome result (λ parts. chars text.now ≡ parts.0 ∷ chars parts.1.now) }

@@ -18,8 +18,8 @@ use std::marker::Model;
 // The number of terminal columns from one tab stop to the next.
 const TAB_WIDTH: usize = 4;
 
-/// A field as it is drawn. A TAB becomes one to four spaces, up to the next multiple of four
-/// terminal columns in its line. A line break, which is a line feed, a carriage return, or a
+/// Returns `field` as it is drawn. A TAB becomes one to four spaces, up to the next multiple of
+/// four terminal columns in its line. A line break, which is a line feed, a carriage return, or a
 /// carriage return with a line feed, becomes a line feed. Every other control character becomes
 /// U+FFFD, and so does each character that changes the direction of text (U+202A to U+202E, U+2066
 /// to U+2069). SGR sequences stay if `keeps_sequences` is true, and take no terminal columns. The

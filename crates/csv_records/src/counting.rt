@@ -24,7 +24,7 @@ enum State {
 /// The number of fields of each of the first `most` records of a text, in the order of the records.
 ///
 /// Fields are counted as the reader of the crate `csv` would count them. That reader isn't used,
-/// because it fills tables first. For a few records this takes longer than everything else. The
+/// because it fills tables first, which for a few records takes longer than everything else. The
 /// only error is that memory runs out.
 pub(crate) fn field_counts(
     alloc: Global,
@@ -48,8 +48,8 @@ pub(crate) fn field_counts(
     Ok(counts)
 }
 
-/// The number of fields of the first record in these bytes, and the bytes after this record. `None`
-/// if there is no record.
+/// The number of fields of the first record in `bytes`, and the bytes after this record. `None` if
+/// there is no record.
 pub(crate) fn first_count(bytes: &[u8], delimiter: u8, has_quotes: bool) -> Option<(usize, &[u8])>
     ensures { option_map (λ found. (found.0, found.1.now)) result
         ≡ count_from (config_for delimiter has_quotes) st.StartRecord 1 bytes.now }

@@ -35,10 +35,10 @@ pub struct MarkSummary {
     /// `1,234` doesn't need the comma, because it can also be a whole number.
     pub is_needed: bool,
     /// True if each field can be read with this mark as its decimal mark. A field without the mark
-    /// can be read so. `1.234.567` can't be read with the point.
+    /// can always be read. `1.234.567` can't be read with the point.
     pub is_readable: bool,
     /// The length of the longest fraction in bytes, including the mark; 0 if no field has the mark.
-    /// If `is_readable` is true, this is also the number of characters.
+    /// If `is_readable` is true, the longest fraction has as many characters as bytes.
     pub longest: usize,
 }
 
@@ -68,9 +68,10 @@ impl DecimalMark {
 }
 
 impl Points {
-    /// The number of spaces to write after a field of the column, so that its decimal mark is below
-    /// the marks of the other fields if all are right-aligned. A number without the mark gets
-    /// `longest` spaces. A neutral field (`is_neutral`) gets none.
+    /// The number of spaces to write after the text `field` of the column, so that its decimal mark
+    /// is below the other marks if all fields are right-aligned. The number is `longest` minus the
+    /// length of the field's fraction, including its mark. A number without the mark gets `longest`
+    /// spaces, and a neutral field (`is_neutral`) gets none.
     pub fn trailing_spaces(self, field: &str) -> usize
         ensures { result ≡ trailing_spaces self field.now }
     {
@@ -129,8 +130,8 @@ impl ColumnMarks {
         }
     }
 
-    /// Adds a field of the column to the facts. `number` has to be the result of `number_in` for
-    /// this field.
+    /// Adds the text `field` of the column to the facts. `number` has to be the result of
+    /// `number_in` for `field`.
     pub fn add(&mut self, field: &str, number: FieldNumber)
         ensures { number ≡ number_of field.now → (fields : List (List ℕ))
             → self.old ≡ marks_of fields → self.new ≡ marks_of (fields ++ field.now ∷ []) }
@@ -140,9 +141,9 @@ impl ColumnMarks {
         self.comma.add(field, number.comma, DecimalMark::Comma);
     }
 
-    /// The decimal mark of the column, and the length of its longest fraction. The mark is that
-    /// which a field needs, and with which all fields can be read. `None` if there is no such mark,
-    /// if a field needs the other mark, or if `are_plain` is false.
+    /// The decimal mark of the column, and the length of its longest fraction. At least one field
+    /// needs this mark, all fields can be read with it, and no field needs the other mark. `None`
+    /// if there is no such mark, or if `are_plain` is false.
     pub fn points(self) -> Option<Points>
         ensures { result ≡ points_for self }
     {

@@ -113,9 +113,8 @@ fn delimiter_in(line: &[u8]) -> Option<u8>
     }
 }
 
-/// The byte of a word of one byte, if this byte may separate fields. `None` if the word is empty or
-/// has several bytes, or if its byte is a double quote, a line feed, a carriage return or not
-/// ASCII.
+/// The only byte of `word`, if this byte may separate fields. `None` if the word is empty or has
+/// several bytes, or if its byte is a double quote, a line feed, a carriage return or not ASCII.
 pub fn only_ascii(word: &[u8]) -> Option<u8>
     ensures { result ≡ only_ascii word.now }
 {

@@ -5,8 +5,9 @@ ghost use Rattle.csv_records.specs.Numerals.{number_for};
 
 use comfy_parts::content_split::are_digits;
 
-/// The value of a word that is a number in ASCII digits. `None` if the word is empty, has another
-/// character, or is too large for `usize`. `parse` alone would also accept a plus sign.
+/// The value of `word`, if it is a number in ASCII digits. `None` if the word is empty or has
+/// another character, or if the number is too large for `usize`. `parse` alone would also accept a
+/// plus sign.
 #[tactic(auto, using(crate::proofs::NumeralLemmas::other, crate::proofs::NumeralLemmas::parsed))]
 pub fn parse_digits(word: &str) -> Option<usize>
     ensures { result ≡ number_for 64 word.now }

@@ -29,7 +29,8 @@ pub enum Encoding {
     Utf16,
 }
 
-/// The text of an input after its first `options.skip` lines, which are left out.
+/// Decodes `input` by the encoding `options.encoding`. The result is the text of the input after
+/// its first `options.skip` lines.
 ///
 /// If no encoding is set, an input that begins with a byte-order mark of UTF-16 is UTF-16. Any
 /// other input is then UTF-8, unless its bytes show another kind of file. If no line is left out,
@@ -37,8 +38,8 @@ pub enum Encoding {
 ///
 /// # Errors
 ///
-/// - `NotUtf8`, `NotUtf16`: the bytes aren't valid in the encoding. In UTF-16 this is a surrogate
-///   without a partner, or an odd byte at the end.
+/// - `NotUtf8`, `NotUtf16`: the bytes aren't valid in the encoding. Bytes of UTF-16 aren't valid if
+///   there is a surrogate without a partner, or an odd byte at the end.
 /// - `NotText`: no encoding is set, there is no byte-order mark of UTF-16, and the bytes are those
 ///   of another kind of file.
 /// - `OutOfMemory`: there isn't enough memory for the text.

@@ -45,8 +45,8 @@ pub enum RecordsError {
     /// quote, counted as for `DecodeError`.
     #[error("a quote that opens in line {0} is never closed")]
     Unclosed(u64),
-    /// The delimiter isn't ASCII, and splits a character: it is one of the bytes of the character's
-    /// UTF-8.
+    /// The delimiter is a byte that isn't ASCII, and it splits a character of the text, because it
+    /// is one of the bytes of that character's UTF-8.
     #[error("the delimiter splits a character")]
     SplitCharacter,
     /// There wasn't enough memory for the records.

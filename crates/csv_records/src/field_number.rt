@@ -15,9 +15,9 @@ use comfy_parts::content_split::are_digits;
 /// Facts about a field as a number, as `number_in` finds them.
 #[derive(Clone, Copy, Debug)]
 pub struct FieldNumber {
-    /// True if the field is a number, as defined for `is_number`.
+    /// True if the field is a number: the function `is_number` returns true for the field.
     pub is_number: bool,
-    /// True if the field is a number without an exponent.
+    /// True if the field is a number, and this number has no exponent.
     pub is_decimal: bool,
     /// True if each character of the field is an ASCII digit, `.`, `,`, `-` or `+`.
     pub is_bare: bool,
@@ -27,14 +27,15 @@ pub struct FieldNumber {
     pub comma: Fraction,
 }
 
-/// The fraction that a field has if a given character, a point or a comma, is the decimal mark.
+/// The fraction that a field has if a given character, a point or a comma, is the decimal mark. The
+/// *digits* of a field are its part from the first digit, point or comma to the last one.
 #[derive(Clone, Copy, Debug)]
 pub struct Fraction {
-    /// The length of the fraction in bytes: from the first mark of this kind to the end of the
-    /// digits, including the mark. 0 if the digits don't have the mark.
+    /// The length of the fraction in bytes: from the first decimal mark to the end of the digits,
+    /// including the mark. 0 if the digits don't have this mark.
     pub len: usize,
-    /// True if the digits can be read with this decimal mark. This is so for digits without the
-    /// mark. `1.234.567` can't be read with the point.
+    /// True if the digits can be read with the decimal mark. Digits without the mark can always be
+    /// read. `1.234.567` can't be read with the point.
     pub is_readable: bool,
 }
 
@@ -65,9 +66,9 @@ pub fn is_number(field: &str) -> bool
     may_be_around(front, back) && figure_number(digits, false).is_number
 }
 
-/// Reads a field as a number: whether it is a number, and which fraction it has with each decimal
-/// mark. A field of digits with at most one decimal mark, perhaps after a sign, is read in one
-/// pass.
+/// Reads `field` as a number. The result says whether `field` is a number (`is_number`), and which
+/// fraction it has with each decimal mark. A field of digits with at most one decimal mark, perhaps
+/// after a sign, is read in one pass.
 pub fn number_in(field: &str) -> FieldNumber
     ensures { result ≡ number_of field.now }
 {

@@ -77,7 +77,7 @@ impl Ends {
     }
 }
 
-/// The fields of records, one after another.
+/// A list of the fields of records, one after another.
 #[derive(Drop)]
 pub(crate) struct Fields {
     bytes: Vec<u8>,
@@ -114,7 +114,7 @@ impl Fields {
         self.ends.len()
     }
 
-    /// The field at a position, which is counted from 0. `None` after the last field.
+    /// The field at the position `at`, which is counted from 0. `None` after the last field.
     pub(crate) fn get(&self, at: usize) -> Option<&[u8]>
         ensures place { IfSome result (λ field. at < 2 ^ 64 - 1) }
         ensures value { option_map (λ field. field.now) result ≡ field_at (fields_of self.now) at }
@@ -126,7 +126,8 @@ impl Fields {
         Some(field)
     }
 
-    /// The index of the byte at which the field at a position starts.
+    /// The index of the byte at which the field at the position `at` starts. Both are counted from
+    /// 0.
     pub(crate) fn start(&self, at: usize) -> usize
         requires { at < length (fields_of self.now) }
         ensures { result ≡ prev 0 self.now.ends at }
@@ -134,8 +135,8 @@ impl Fields {
         self.ends.start(at)
     }
 
-    /// The field at a position, and the index of the byte after it. `start` is the index of its
-    /// first byte.
+    /// The field at the position `at`, and the index of the byte after this field. `start` is the
+    /// index of the field's first byte.
     pub(crate) fn field_from(&self, at: usize, start: usize) -> (&[u8], usize)
         requires there { at < length (fields_of self.now) }
         requires start { start ≡ prev 0 self.now.ends at }
@@ -146,7 +147,8 @@ impl Fields {
         (&self.bytes.as_slice()[start..end], end)
     }
 
-    /// Reserves memory for `count` more fields with `bytes` bytes in all.
+    /// Reserves memory for `count` more fields with `bytes` bytes in all. The only error is that
+    /// memory runs out; the fields are unchanged in any case.
     pub(crate) fn reserve(&mut self, count: usize, bytes: usize) -> Result<(), AllocError>
         ensures { self.new ≡ self.old }
     {
@@ -154,7 +156,8 @@ impl Fields {
         self.ends.reserve(count)
     }
 
-    /// Appends the fields of a record.
+    /// Appends the fields of the record `more`. The only error is that memory runs out; some of the
+    /// fields may then be appended.
     pub(crate) fn push_record(&mut self, more: &ByteRecord) -> Result<(), AllocError>
         requires whole { partial_of self.old ≡ [] }
         ensures whole { OnOk result (partial_of self.new ≡ []) }
@@ -167,7 +170,7 @@ impl Fields {
         Ok(())
     }
 
-    /// Appends a field.
+    /// Appends `field` to the list. The only error is that memory runs out.
     pub(crate) fn push_field(&mut self, field: &[u8]) -> Result<(), AllocError>
         requires whole { partial_of self.old ≡ [] }
         ensures whole { OnOk result (partial_of self.new ≡ []) }

@@ -13,26 +13,27 @@ use crate::options::InputOptions;
 use crate::records::Rows;
 use crate::text::{line_before, without_utf8_mark};
 
-/// A report on the *longer* records of a text: those that have more fields than its first record.
-/// Empty fields at the end of a longer record don't count.
+/// A report on the *longer* records of a text: those that have more fields than the first record of
+/// the text. Empty fields at the end of a longer record don't count.
 #[derive(Clone, Copy, Debug)]
 pub struct LongRecords {
-    /// The number of the line in which the first longer record begins. Lines are counted as for
-    /// `DecodeError`.
+    /// The number of the line in which the first longer record begins. Lines are counted from 1,
+    /// including the lines that `InputOptions::skip` leaves out.
     pub line: u64,
-    /// The number of fields of the first longer record, not counting empty ones at its end.
+    /// The number of fields of the first longer record. Empty fields at the end of the record don't
+    /// count.
     pub fields: usize,
-    /// The number of fields of the first record of the text, including empty ones.
+    /// The number of fields of the first record of the text. Empty fields count too.
     pub first_fields: usize,
     /// The number of longer records after the first longer record.
     pub others: usize,
-    /// True if each record after the first longer record is longer too. This is so if the first
-    /// longer record is the last record.
+    /// True if each record after the first longer record is longer too. Also true if no record
+    /// comes after the first longer record.
     pub lasts: bool,
 }
 
 /// The report on the longer records among `records`, the first records of a text. `None` if none of
-/// them is longer. `rest` is the text without a line that names the delimiter.
+/// `records` is longer. `rest` is the text without a line that names the delimiter.
 pub(crate) fn longer_records(
     records: &Rows<'_>,
     text: &str,

@@ -10,8 +10,9 @@ use crate::text::line_number;
 use memchr::memchr;
 use thiserror::Error;
 
-/// A kind of input that isn't CSV in UTF-8, and is recognised by its bytes. For `Json`, `Html`,
-/// `Utf16` and `Binary`, the bytes of lines that `InputOptions::skip` leaves out don't count.
+/// A kind of input that isn't CSV in UTF-8. The bytes of an input show its kind. For `Json`,
+/// `Html`, `Utf16` and `Binary`, the bytes of lines that `InputOptions::skip` leaves out don't
+/// count.
 #[derive(Clone, Copy, Debug, PartialEq, Eq, Error)]
 pub enum NotText {
     /// A file of gzip: it begins with the bytes 0x1F and 0x8B.

@@ -3,7 +3,7 @@
 use crate::delimiter::Delimiter;
 use crate::encoding::Encoding;
 
-/// Settings for reading an input.
+/// The options with which an input is decoded into a text, and the text is split into records.
 #[derive(Clone, Copy, Debug)]
 pub struct InputOptions {
     /// The encoding of the input. With `None`, an input that begins with a byte-order mark of
@@ -15,11 +15,11 @@ pub struct InputOptions {
     pub skip: usize,
     /// The byte or the white space that separates fields, or the rule that finds the byte.
     pub delimiter: Delimiter,
-    /// True if the first line is a header. The field has an effect only for `Delimiter::Spaces`:
-    /// the fields of the header then help to find the number of columns.
+    /// True if the first line is a header. `has_header` has an effect only for `Delimiter::Spaces`:
+    /// the header then helps to find the number of columns.
     pub has_header: bool,
     /// True if double quotes may enclose a field, and aren't part of it. A quote that opens a field
-    /// and is never closed is then an error. If the field is false, or for `Delimiter::Spaces`,
+    /// and is never closed is then an error. If `has_quotes` is false, or for `Delimiter::Spaces`,
     /// quotes are ordinary characters.
     pub has_quotes: bool,
 }

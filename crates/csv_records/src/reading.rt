@@ -15,14 +15,16 @@ use crate::spaces::tabbed_text;
 use crate::text::line_before;
 use std::alloc::Global;
 
-/// All records of a text that `decoded` has made. An empty line isn't a record. A line `""` is a
-/// record with one empty field, if `has_quotes` is true.
+/// Returns all records of `text`, which is a text that `decoded` has returned for the same
+/// `options`. An empty line isn't a record. A line `""` is a record with one empty field, if
+/// `has_quotes` is true.
 ///
 /// # Errors
 ///
 /// - `Unclosed`: a quote that opens a field is never closed. The error has the number of the line
-///   with this quote. The lines that `skip` leaves out are counted too.
-/// - `SplitCharacter`: the delimiter isn't ASCII, and is one of the bytes of another character.
+///   with this quote, counted from 1. The lines that `skip` leaves out are counted too.
+/// - `SplitCharacter`: the delimiter is a byte that isn't ASCII, and it splits a character of the
+///   text, because it is one of the bytes of that character's UTF-8.
 /// - `OutOfMemory`: there isn't enough memory for the records.
 pub fn read_records(
     alloc: Global,
@@ -35,10 +37,10 @@ pub fn read_records(
     Ok(read_first_records(alloc, text, options, usize::MAX)?.records)
 }
 
-/// The first `most` records of a text, or all if there are fewer. The result also has the number of
-/// all records of the text, and a report on those of its first `most` records that have more fields
-/// than the first one. There is no report for `Delimiter::Spaces`. The whole text is read, and the
-/// errors are those of `read_records`.
+/// Returns the first `most` records of `text`, or all if there are fewer. The result also has the
+/// number of all records of the text. It has a report on those of the first `most` records that
+/// have more fields than the first record, except for `Delimiter::Spaces`. The whole text is read,
+/// and the errors are those of `read_records`.
 pub fn read_first_records(
     alloc: Global,
     text: &str,

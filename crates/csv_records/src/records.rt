@@ -18,8 +18,8 @@ use std::alloc::{AllocError, Global};
 use std::marker::Model;
 use std::str;
 
-/// The records of a text. The records take a few large pieces of memory, however many there are.
-/// Dropping the value frees this memory.
+/// The records of a text. All records together take a few large pieces of memory, however many
+/// records there are. Dropping the value frees this memory.
 ///
 /// ```
 /// let records = read_records(alloc, "name,days\noats,3\n", &options)?;
@@ -90,7 +90,7 @@ impl Records {
         Ok(Some(Records { fields, places }))
     }
 
-    /// All records, in the order of the text.
+    /// All records of `self`, in the order in which they are in the text.
     pub fn rows(&self) -> Rows<'_>
         ensures { result ≡ self.now }
     {
@@ -101,7 +101,7 @@ impl Records {
     }
 }
 
-/// Consecutive records of a text: all of its records, or some of them. As an iterator, `Rows`
+/// Consecutive records of a text: all records of the text, or some of them. As an iterator, `Rows`
 /// yields each record.
 #[derive(Drop)]
 pub struct Rows<'a> {
@@ -137,14 +137,16 @@ impl<'a> Rows<'a> {
         self.places.is_empty()
     }
 
-    /// Does nothing. For proofs, its clause states that each field of each record is valid UTF-8.
+    /// Does nothing. The clause of this function states for proofs that each field of each record
+    /// is valid UTF-8.
     pub fn hold_texts(&self)
         ensures { All AllText self.now }
     {
         let _ = &self.fields;
     }
 
-    /// An iterator over the records, which leaves `self` as it is.
+    /// An iterator over the records of `self`, in their order. `self` is unchanged while the
+    /// iterator advances.
     pub fn iter(&self) -> Rows<'a>
         ensures { result ≡ self.now }
     {
@@ -154,7 +156,8 @@ impl<'a> Rows<'a> {
         }
     }
 
-    /// The records after the first `count` records, or none if there aren't more.
+    /// The records after the first `count` records. The result has no records if there are at most
+    /// `count` records.
     pub fn rows_after(&self, count: usize) -> Rows<'a>
         ensures { result ≡ drop count self.now }
     {
@@ -183,7 +186,7 @@ impl<'a> Rows<'a> {
         })
     }
 
-    /// The record at a position, which is counted from 0. `None` after the last record.
+    /// The record at `position`, which is counted from 0. `None` after the last record.
     pub fn get(&self, position: usize) -> Option<Record<'a>>
         ensures { result ≡ slice_get self.now position }
     {
@@ -221,7 +224,7 @@ impl<'a> Iterator for Rows<'a> {
     }
 }
 
-/// A record: a list of fields that are borrowed from `Records`.
+/// A record: a list of fields, each of which is a text that is borrowed from `Records`.
 #[derive(Drop)]
 pub struct Record<'a> {
     fields: &'a Fields,
@@ -249,7 +252,8 @@ impl<'a> Record<'a> {
         self.place.end - self.place.start
     }
 
-    /// The number of fields up to the last one that isn't empty, or 0 if all are empty.
+    /// The number of fields up to the last field that isn't empty. 0 if all fields are empty, or if
+    /// there are none.
     pub fn filled_len(&self) -> usize
         ensures { result ≡ filled_len self.now }
     {
@@ -278,7 +282,7 @@ impl<'a> Record<'a> {
         }
     }
 
-    /// The field at a position, which is counted from 0. `None` after the last field.
+    /// The field at `position`, which is counted from 0. `None` after the last field.
     pub fn get(&self, position: usize) -> Option<&'a str>
         ensures place { IfSome result (λ f. position < 2 ^ 64 - 1) }
         ensures value { option_map (λ s. s.now) result ≡ field_at self.now position }
@@ -371,16 +375,16 @@ fn reader_of(alloc: Global, text: &str, delimiter: u8, has_quotes: bool) -> Read
         .from_reader(alloc, text.as_bytes())
 }
 
-/// The first records of a text, the number of all its records, and a report on records that are
-/// longer than the first one.
+/// The first records of a text, the number of all records of the text, and a report on records that
+/// have more fields than the first record.
 #[derive(Drop)]
 pub struct FirstRecords {
     /// The first records of the text, at most as many as the caller requested.
     pub records: Records,
     /// The number of all records in the text, including those that aren't in `records`.
     pub count: usize,
-    /// A report on those of `records` that have more fields than the first one. `None` if no record
-    /// has more, or for `Delimiter::Spaces`.
+    /// A report on those of `records` that have more fields than the first record. `None` if no
+    /// record has more fields, or for `Delimiter::Spaces`.
     pub longer: Option<LongRecords>,
 }
 

@@ -8,7 +8,7 @@ ghost use Rattle.csv_records.specs.Shown.{shown_in, shown_text};
 use crate::cleaning::shown;
 use std::alloc::{AllocError, Global};
 
-/// A copy of a text for a message. U+FFFD replaces each control character, and each character that
+/// A copy of `text` for a message. U+FFFD replaces each control character, and each character that
 /// changes the direction of text (U+202A to U+202E, U+2066 to U+2069). Line feeds stay if
 /// `keeps_breaks` is true. The only error is that memory runs out.
 pub fn shown_text(alloc: Global, text: &str, keeps_breaks: bool) -> Result<String, AllocError>

@@ -37,7 +37,7 @@ const BOLD: &TextStyle<'static> = &TextStyle {
     attributes: &[Attribute::Bold],
 };
 
-/// The cell of a text that isn't cleaned yet, followed by `after` spaces. The cell borrows the text
+/// The cell of `text`, which isn't cleaned yet, followed by `after` spaces. The cell borrows `text`
 /// if the text is drawn as it is, and otherwise has a cleaned copy.
 #[inline(always)]
 pub(crate) fn row_cell<'r>(
@@ -57,8 +57,8 @@ pub(crate) fn row_cell<'r>(
     other_cell(alloc, text, after, alignment, is_bold, look)
 }
 
-/// The cell of a field in its column. If `is_aligned` is true, spaces after the field put its
-/// decimal mark below the other marks of the column.
+/// The cell of `field` in the column `column`. If `is_aligned` is true, spaces after the field put
+/// its decimal mark below the other marks of the column.
 #[inline(always)]
 pub(crate) fn field_cell<'r>(
     alloc: Global,
@@ -75,8 +75,8 @@ pub(crate) fn field_cell<'r>(
     row_cell(alloc, field, after, column.alignment, false, look)
 }
 
-/// Appends the cell of a field in its column, as `field_cell` returns it, but with the settings
-/// `own` unless they are `None`.
+/// Appends the cell that `field_cell` returns for `field` to `cells`. The cell gets the settings
+/// `own`, unless they are `None`.
 #[inline(always)]
 pub(crate) fn push_field<'r>(
     cells: &mut Vec<RowCell<'r>>,
@@ -138,8 +138,7 @@ fn dressed_cell<'r>(
     Ok(RowCell::Made(Box::new(alloc, cell)?))
 }
 
-/// Appends the cell of a text that isn't cleaned yet, followed by `after` spaces, as `row_cell`
-/// returns it.
+/// Appends the cell that `row_cell` returns for `text` to `cells`.
 #[inline(always)]
 pub(crate) fn push_text<'r>(
     cells: &mut Vec<RowCell<'r>>,
@@ -160,8 +159,8 @@ pub(crate) fn push_text<'r>(
     push_other(cells, alloc, text, after, alignment, is_bold, look)
 }
 
-/// Appends the cell of the name of the column at a position, or of the column's number, counted
-/// from 1, if it has no name.
+/// Appends a cell of `name` to `cells`. If `name` is `None`, the cell has the number of the column
+/// at `position`, counted from 1. The position is counted from 0.
 #[inline(always)]
 pub(crate) fn push_name<'r>(
     cells: &mut Vec<RowCell<'r>>,
@@ -229,8 +228,8 @@ pub(crate) fn number_cell<'r>(alloc: Global, number: u128, look: &Look) -> Resul
     boxed_cell(alloc, text.as_str(), 0, right, false, look)
 }
 
-/// The cell of the name of the column at a position, or of the column's number, counted from 1, if
-/// it has no name.
+/// A cell of `name`. If `name` is `None`, the cell has the number of the column at `position`,
+/// counted from 1. The position is counted from 0.
 pub(crate) fn name_cell<'r>(
     alloc: Global,
     name: Option<&'r str>,
@@ -305,9 +304,10 @@ fn made_cell(
     Ok(cell)
 }
 
-/// The row of the header: the names of `columns`, with their settings. If `is_numbered` is true,
-/// the name of the column of record numbers comes first: `#`, or an empty text if the header has no
-/// fields. The only error is `OutOfMemory`.
+/// The row of the header. Its texts are the fields of the record `names` at the positions of
+/// `columns`; a missing field is an empty text. `settings` has the settings of the cells, by the
+/// positions of fields. If `is_numbered` is true, the first cell names the column of record
+/// numbers: `#`, or an empty text if `names` has no fields. The only error is `OutOfMemory`.
 pub fn header_of(
     alloc: Global,
     is_numbered: bool,

@@ -16,9 +16,9 @@ use csv_records::{ColumnMarks, Points, Record, Rows};
 use std::alloc::{AllocError, Global};
 use std::borrow::CowStr;
 
-/// The plan of each drawn column, in the order of `columns`. It follows from the column's fields in
-/// `rows`, and from the alignment that `columns` sets. If `has_sequences` is true, SGR sequences in
-/// fields don't count. The only error is that memory runs out.
+/// The plan (`ColumnPlan`) of each drawn column, in the order of `columns`. A plan follows from the
+/// column's fields in `rows`, and from the alignment that `columns` sets. If `has_sequences` is
+/// true, SGR sequences in fields don't count. The only error is that memory runs out.
 pub(crate) fn drawn_columns(
     alloc: Global,
     columns: &Columns,
@@ -62,8 +62,9 @@ fn points_at(alignment: Option<CellAlignment>, marks: Option<ColumnMarks>) -> Op
     }
 }
 
-/// The name of the column at a position, or the column's number, counted from 1, if it has no name.
-/// The position is counted from 0. The only error is that memory runs out.
+/// The name of the column at `position`, which is counted from 0. The name is the field of the
+/// header `names` at this position, which may be empty. If `names` has no field there, the result
+/// is the column's number, counted from 1. The only error is that memory runs out.
 pub fn name_at<'a>(
     alloc: Global,
     names: &Record<'a>,
@@ -74,8 +75,8 @@ pub fn name_at<'a>(
     name_or_number(alloc, names.get(position), position)
 }
 
-/// The given name of the column at a position, or the column's number, counted from 1, if there is
-/// no name.
+/// The text `name`, or the number of the column at `position`, counted from 1, if `name` is `None`.
+/// The position is counted from 0. The only error is that memory runs out.
 pub(crate) fn name_or_number<'a>(
     alloc: Global,
     name: Option<&'a str>,
@@ -111,8 +112,8 @@ fn alignment_of(
     }
 }
 
-/// The visible text of a field: the field without SGR sequences if `has_sequences` is true, and
-/// otherwise the whole field.
+/// The visible text of `field`: the field without SGR sequences if `has_sequences` is true, and
+/// otherwise the whole field. The only error is that memory runs out.
 pub(crate) fn seen_text<'a>(
     alloc: Global,
     field: &'a str,

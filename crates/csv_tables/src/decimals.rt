@@ -12,8 +12,9 @@ use csv_records::Points;
 use std::alloc::{AllocError, Global};
 use std::borrow::CowStr;
 
-/// The greatest number of characters of a field whose decimal mark is put below others, or of a
-/// field that isn't broken over lines. A time stamp that isn't broken over lines may have more.
+/// The greatest number of characters of a field whose decimal mark is put below other decimal
+/// marks, or of a field that isn't broken over lines. A time stamp that isn't broken over lines may
+/// have more.
 pub(crate) const LONGEST_KEPT: usize = 25;
 
 /// Returns true if a field has at most `LONGEST_KEPT` characters, all of them printable ASCII.
@@ -30,7 +31,7 @@ pub(crate) fn has_points(columns: &[ColumnPlan]) -> bool
     columns.iter().any(|column| column.points.is_some())
 }
 
-/// The number of spaces after a field that put its decimal mark below the other marks of its
+/// The number of spaces after `field` that put its decimal mark below the other marks of the
 /// column. 0 if `points` is `None`: the column then has no decimal mark. If `has_sequences` is
 /// true, SGR sequences in the field don't count. The only error is that memory runs out.
 #[inline(always)]
@@ -50,8 +51,8 @@ pub(crate) fn spaces_after(
     Ok(points.trailing_spaces(field.as_str()))
 }
 
-/// A text followed by `count` spaces. The text isn't copied if `count` is 0. The only error is that
-/// memory runs out.
+/// Returns `text` followed by `count` spaces. The text isn't copied if `count` is 0. The only error
+/// is that memory runs out.
 pub(crate) fn with_spaces<'a>(
     alloc: Global,
     text: &'a str,

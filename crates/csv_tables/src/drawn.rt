@@ -27,8 +27,9 @@ const RECORDS: usize = 256;
 // The number of bytes that a piece has room for at first.
 const ROOM: usize = 32768;
 
-/// The drawing of some records. Each call of `next_piece` (trait `Pieces`) returns the next piece
-/// of the drawing's text. The drawing needs memory for the cells of few records at a time.
+/// A drawing of records, whose text is made piece by piece. Each call of `next_piece` (trait
+/// `Pieces`) returns the next piece of the text, and `None` after the last piece. The drawing needs
+/// memory for the cells of few records at a time.
 #[derive(Drop)]
 pub struct RecordDrawing {
     // the next piece, which is made before the caller wants it: memory runs out only before a piece
@@ -165,9 +166,9 @@ fn push_next(left: Remaining, text: &mut String) -> Result<Option<Remaining>>
     }))
 }
 
-/// Appends the lines of the records `next`. The first of these records is at the place `place`,
-/// counted from 0. In a table of rows, `extent` decides whether the lines above and below all rows
-/// are appended too.
+/// Appends the lines of the records `next` to `text`. The first of these records is at the place
+/// `place`, counted from 0. In a table of rows, `extent` decides whether the lines above and below
+/// all rows are appended too.
 pub(crate) fn push_records(
     text: &mut String,
     arranged: &ArrangedTable<LazyTable>,

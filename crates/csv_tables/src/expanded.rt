@@ -8,8 +8,8 @@ use crate::selection::Noun;
 use comfy_table::Result;
 use std::fmt::Write;
 
-/// Returns true if records are expanded by this rule. `has_room` is true if the width has room for
-/// the table of the records' rows.
+/// Returns true if records are expanded by the rule `expansion`. `has_room` is true if the width
+/// has room for the table of the records' rows.
 pub(crate) fn is_expanded(expansion: Expansion, has_room: bool) -> bool
     ensures { result ≡ is_expanded_in expansion has_room }
 {
@@ -20,9 +20,9 @@ pub(crate) fn is_expanded(expansion: Expansion, has_room: bool) -> bool
     }
 }
 
-/// Appends the line above an expanded record, such as `record 1 of 2`. `at` is the place of the
-/// record, counted from 0. `count` is the number of all records, or `None` if this number isn't
-/// known. The only error is `OutOfMemory`.
+/// Appends the line above an expanded record to `text`, such as `record 1 of 2`. `at` is the place
+/// of the record, counted from 0. `count` is the number of all records below the header, or `None`
+/// if this number isn't known. The only error is `OutOfMemory`.
 pub(crate) fn push_record_line(
     text: &mut String,
     noun: Noun,

@@ -9,9 +9,9 @@ ghost use Rattle.csv_tables.specs.declared.options.Layout.{Layout};
 ghost use Rattle.csv_tables.specs.declared.options.ColumnPlan.{ColumnPlan};
 
 /// Spaces after fields put decimal marks below each other, and fields aren't changed otherwise. In
-/// a column with a decimal mark, the fraction of each field and the spaces after it have the same
-/// length together. So all marks are equally far from the right side of the column. Neutral fields,
-/// such as `n/a`, are exempt.
+/// a column with a decimal mark, the fraction of a field and the spaces after the field are
+/// together equally long in each record. So all marks are equally far from the right side of the
+/// column. Neutral fields, such as `n/a`, are exempt.
 pub fn decimal_marks_are_lined_up()
     ensures spaces { (look : Look) (is_aligned : Bool) (column : ColumnPlan)
         (fields : List Text)
@@ -19,10 +19,10 @@ pub fn decimal_marks_are_lined_up()
     ensures marks { (fields : List Text) → MarksAreLinedUp fields }
 {}
 
-/// All lines of an output take the same number of terminal columns. If the header isn't bold, this
-/// holds for the lines as they are written. It also holds for the lines without their SGR
-/// sequences, if the style has no control characters and no characters that change the direction of
-/// text.
+/// All lines of an output take the same number of terminal columns. If the header isn't bold, the
+/// lines are equally wide as they are written. If the style has no control characters and no
+/// characters that change the direction of text, the lines are equally wide without their SGR
+/// sequences.
 ///
 /// The law requires that each character of the style adds one terminal column, and that none is a
 /// line feed. It also requires that the look's `has_sequences` is false. The law then holds in each

@@ -48,8 +48,8 @@ impl Model for LazyTable {
 }
 
 impl LazyTable {
-    /// Makes the table of `rows`, and measures the content of each column. The style keeps its
-    /// lines between rows. The only error is `OutOfMemory`.
+    /// Makes the table of `rows`, and measures the content of each column. The table's style keeps
+    /// its lines between rows. The only error is `OutOfMemory`.
     pub fn new(rows: RecordRows) -> Result<LazyTable>
         ensures table { IfOk result (λ contents. contents.table ≡ table_by rows) }
         ensures rows { IfOk result (λ contents. contents.rows ≡ rows) }
@@ -73,8 +73,8 @@ impl LazyTable {
         rows
     }
 
-    /// Returns true only if each row has at most one line in columns of the widths in `infos`. If
-    /// the result is false, each row may still have at most one line.
+    /// Returns true only if each row is drawn in at most one line, if the columns have the widths
+    /// in `infos`. The result may be false even if each row is drawn in at most one line.
     pub fn is_flat_within(&self, infos: &[ColumnDisplayInfo]) -> bool
         ensures { result ≡ true → list_any (nat_lt 1) (map (row_height self.now.table infos.now)
             self.now.table.rows) ≡ false }
@@ -82,8 +82,8 @@ impl LazyTable {
         self.is_flat && are_within(self.widths.as_slice(), infos)
     }
 
-    /// The content width of each column, in terminal columns, in the order of the columns. It is
-    /// the width of the widest text line in the column, at most 65535.
+    /// The content width of each column, in terminal columns, in the order of the columns. A
+    /// content width is the width of the widest text line in the column, at most 65535.
     pub fn widths(&self) -> &[u16]
         ensures { result.now ≡ max_content_widths self.now.table }
     {

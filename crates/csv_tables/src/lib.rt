@@ -1,4 +1,9 @@
-//! Makes tables of records, and draws them as rows, as expanded records, or for Markdown.
+//! Makes tables of records, and draws them as rows, as *expanded records*, or for Markdown. Each
+//! expanded record is drawn as a table of its own, with one row for each drawn field: the name of
+//! the column, and the field (`Expansion`).
+//!
+//! The *position* of a field is its index in the record, counted from 0. A column has the position
+//! of its fields. The *place* of a record is its index among the drawn records, counted from 0.
 #![tactic(auto)]
 
 mod cells;

@@ -30,8 +30,8 @@ pub(crate) struct ColumnLimits {
     pub has_points: bool,
 }
 
-/// The limits of each column of the table of rows, in the order of the columns. The list is empty
-/// if `settings` is empty.
+/// The limits (`ColumnLimits`) of each column of the table of rows, in the order of the columns. A
+/// column of record numbers is the first one. The list is empty if `settings` is empty.
 pub(crate) fn limits_in(
     settings: &[ColumnSettings],
     selected: &SelectedRecords,
@@ -52,8 +52,8 @@ pub(crate) fn limits_in(
     Ok(limits)
 }
 
-/// The settings of the column at a position, or `ColumnSettings::none` if the list has no settings
-/// for this column.
+/// The settings of the column at `position`, which is counted from 0. The result is
+/// `ColumnSettings::none` if `settings` ends before this position.
 pub(crate) fn settings_at(settings: &[ColumnSettings], position: usize) -> ColumnSettings
     ensures { result ≡ settings_at settings.now position }
 {
@@ -100,7 +100,8 @@ fn limits_at(limits: &[ColumnLimits], at: usize) -> ColumnLimits
     }
 }
 
-/// Sets the paddings of the columns that have limits.
+/// Sets the padding of each column of `contents` to that in `limits`. Columns past the end of
+/// `limits` keep their paddings.
 pub(crate) fn pad_contents(contents: &mut LazyTable, limits: &[ColumnLimits])
     ensures { contents.new ≡ record contents.old {
       table = with_paddings limits.now contents.old.table;
@@ -134,8 +135,9 @@ fn set_padding(column: &mut Column, padding: (u16, u16))
     column.set_padding(padding);
 }
 
-/// The width that the column at a place takes for a content width, in terminal columns: the content
-/// width within the column's limits, and both paddings.
+/// The width that the column at the place `at` takes, in terminal columns, if its content has the
+/// width `content`. The width has both paddings, and the content's width is raised or lowered to
+/// the column's limits.
 pub(crate) fn taken_at(limits: &[ColumnLimits], at: usize, content: u16) -> usize
     ensures { result ≡ taken (limits_at limits.now at) content }
 {
@@ -160,8 +162,9 @@ fn bounded(limits: ColumnLimits, content: u16) -> u16
     }
 }
 
-/// The constraints that give each column at least its content width in `given`, within its limits.
-/// If `limits` is empty, each column has a padding of one terminal column on both sides.
+/// The constraint for each column that gives it at least its content width in `given`, as far as
+/// its limits allow. If `limits` is empty, each column has a padding of one terminal column on both
+/// sides.
 pub(crate) fn limits_for(
     alloc: Global,
     limits: &[ColumnLimits],
@@ -283,9 +286,10 @@ fn is_within(greatest: Option<u16>, content: u16) -> bool
     }
 }
 
-/// The limits, with each greatest width replaced by the width of the longest line in its column, so
-/// that no column is wider than its lines need. To find these widths, texts are wrapped at the
-/// greatest width.
+/// A copy of `limits` in which the width of the longest line in a column replaces its greatest
+/// width. No column is then wider than its lines need. Texts are wrapped at the greatest width to
+/// find their longest line. The result has no greatest width below the least width of the column,
+/// and none below 1.
 pub(crate) fn reached_limits(
     limits: &[ColumnLimits],
     contents: &LazyTable,

@@ -10,19 +10,19 @@ use comfy_parts::style::CellAlignment;
 use csv_records::split_first;
 use std::alloc::{AllocError, Global};
 
-/// A text as it is written in a cell of a Markdown table, so that a reader of the table sees the
-/// text's characters. The only error is that memory runs out.
+/// Returns `text` as it is written in a cell of a Markdown table, so that a reader of the drawn
+/// table sees the text's characters. The only error is that memory runs out.
 ///
 /// A backslash is added before each character that could begin or end markup:
 ///
 /// - `|`, `\`, `<`, `[` and `]`;
 /// - the `&` of a character reference;
 /// - `*`, `` ` ``, `~` and `_`, if the same character follows later in the text. A `_` directly
-///   after a letter or a digit gets none.
+///   after a letter or a digit gets no backslash.
 ///
 /// A word with one of these backslashes gets more: one before a `:` that `/` follows, and one
-/// before a point after `w`. Otherwise a program that makes links of web addresses would take the
-/// backslashes into the link. A line feed becomes `<br>`.
+/// before a point after `w`. Without these two backslashes, a program that makes links of web
+/// addresses would take the others into the link. A line feed becomes `<br>`.
 pub fn escaped(alloc: Global, text: &str) -> Result<String, AllocError>
     ensures { IfOk result (λ t. string_bytes t ≡ encode_utf8_all (escaped (chars text.now))) }
 {
@@ -39,17 +39,18 @@ pub fn escaped(alloc: Global, text: &str) -> Result<String, AllocError>
     Ok(cell)
 }
 
-/// Returns true if a text has a character that `escaped` may write in another way.
+/// Returns true if `text` has a character that `escaped` may write in another way.
 pub(crate) fn may_be_escaped(text: &str) -> bool
     ensures { result ≡ list_any may_be_escaped (chars text.now) }
 {
     text.chars().any(|c| c == '\n' || is_mark(c) || matches!(c, '*' | '`' | '~' | '_' | '&'))
 }
 
-/// Appends the line below the header of a Markdown table, and a line feed. The line has dashes
-/// between bars. In a right-aligned column a colon replaces the last dash. `sides` has the
-/// alignment of each column, and `widths` its content width in terminal columns. The only error is
-/// that memory runs out; `text` may then have a part of the line.
+/// Appends the line below the header of a Markdown table, and a line feed. The line begins with a
+/// bar. For each column it then has dashes, two more than the column's content width, and a bar. In
+/// a right-aligned column a colon replaces the last dash. `sides` has the alignment of each column,
+/// and `widths` has the content width of each column, in terminal columns. The only error is that
+/// memory runs out; `text` may then have a part of the line.
 pub fn push_rule(
     text: &mut String,
     sides: &[Option<CellAlignment>],

@@ -18,7 +18,8 @@ use std::alloc::Global;
 // `LONGEST_WORD` terminal columns.
 const LONGEST_WHOLE: u16 = 40;
 
-/// The words that columns of text don't break over lines, if the width has room for them.
+/// A choice of the words that columns of text don't break over lines, if the width has room for the
+/// words.
 #[derive(Clone, Copy, Debug, PartialEq, Eq)]
 pub(crate) enum Words {
     /// No words: each word may be broken.
@@ -40,8 +41,9 @@ pub(crate) fn least_words(max_height: Option<usize>) -> Words
     }
 }
 
-/// The content width that the column at a position needs for the widest word of its name, in
-/// terminal columns. 0 if the column may break each word of its name.
+/// The content width that the column at the place `at` needs for the widest word of its name, in
+/// terminal columns. 0 if each word of the name may be broken over lines, as `words` decides, or if
+/// no word takes more than `LEAST_LEVEL` terminal columns.
 pub(crate) fn kept_of_name(table: &Table, words: Words, at: usize) -> u16
     ensures { result ≡ kept_of_name words (wide_word table.now (name_in table.now at)) }
 {
@@ -51,8 +53,9 @@ pub(crate) fn kept_of_name(table: &Table, words: Words, at: usize) -> u16
     }
 }
 
-/// The content width that the column at a position needs for its fields, in terminal columns.
-/// `content` is the width of its whole content.
+/// The content width that the column at the place `at` needs for its fields, in terminal columns.
+/// `content` is the width of the column's whole content. If `is_nowrap` is true, no field is to be
+/// broken over lines, and otherwise `words` decides.
 pub(crate) fn kept_of_fields(
     contents: &LazyTable,
     words: Words,
@@ -106,8 +109,8 @@ fn fields_need(contents: &LazyTable, is_nowrap: bool, at: usize, content: u16) -
     Ok(need.min(usize::from(content)) as u16)
 }
 
-/// The width of a cell if `is_nowrap` is true, and otherwise of its widest word, in terminal
-/// columns.
+/// The width of `cell` if `is_nowrap` is true, and otherwise the width of its widest word, in
+/// terminal columns.
 pub(crate) fn cell_need(
     alloc: Global,
     table: &Table,

@@ -35,8 +35,8 @@ use std::alloc::{AllocError, Global};
 /// The greatest number of terminal columns that a column needs for a word of its name.
 pub(crate) const LONGEST_WORD: u16 = 20;
 
-/// The number of terminal columns that each column needs for its content, whatever its name is. A
-/// column whose content is narrower needs the width of the content.
+/// The number of terminal columns that each column needs for its content at least. A column whose
+/// content is narrower needs only the width of the content.
 pub(crate) const LEAST_LEVEL: u16 = 8;
 
 // The greatest number of characters of a time stamp. All of them are ASCII.
@@ -301,7 +301,8 @@ fn kept_content(
     Ok(of_name.max(of_fields).min(content))
 }
 
-/// The cell of the header at a position, or `None` if there is no such cell.
+/// The cell of the header at the place `at`, counted from 0. `None` if there is no header, or if it
+/// ends before this place.
 pub(crate) fn name_in(table: &Table, at: usize) -> Option<&Cell>
     ensures { option_copied result ≡ name_in table.now at }
 {
@@ -311,8 +312,8 @@ pub(crate) fn name_in(table: &Table, at: usize) -> Option<&Cell>
     }
 }
 
-/// The width of the widest word of a name, at most `LONGEST_WORD` terminal columns. 0 if there is
-/// no name, or if no word of it is wider than `LEAST_LEVEL`.
+/// The width of the widest word of `name` in terminal columns, at most `LONGEST_WORD`. 0 if `name`
+/// is `None`, or if none of its words takes more than `LEAST_LEVEL` terminal columns.
 pub(crate) fn wide_word(table: &Table, name: Option<&Cell>) -> u16
     ensures { result ≡ wide_word table.now (option_copied name.entry) }
 {
@@ -332,7 +333,8 @@ fn clamped_word(width: usize) -> u16
     }
 }
 
-/// The width of the widest word of a text line, in terminal columns.
+/// The width of the widest word of the text line `line`, in terminal columns. Spaces separate
+/// words.
 pub(crate) fn word_width(line: &str) -> usize
     ensures { result ≡ word_width line.now }
 {
@@ -470,8 +472,9 @@ fn field_width(contents: &LazyTable, room: u16) -> Result<u16>
     Ok(widest)
 }
 
-/// The width of the widest number or date, in terminal columns, among the lines of a cell that take
-/// at most `room` terminal columns. 0 if there is no such number or date.
+/// The width, in terminal columns, of the widest number or date in `cell`. A text line counts if
+/// `is_nowrap` is true for it, and if it takes at most `room` terminal columns. The width is 0 if
+/// there is no such text line.
 pub(crate) fn cell_nowrap_width(
     alloc: Global,
     table: &Table,

@@ -32,8 +32,8 @@ pub struct Look {
     pub style: TableStyle,
     /// The rule that decides whether lines between rows are drawn.
     pub separators: RowSeparators,
-    /// The rule that decides whether each record is drawn as a table of its own, of names and
-    /// fields.
+    /// The rule that decides whether records are expanded. Each expanded record is drawn as a table
+    /// of its own, with one row for each drawn field: the name of the column, and the field.
     pub expansion: Expansion,
     /// The greatest width of the table, in terminal columns. `None` sets no width. If the width has
     /// no room for the frame, the paddings and one terminal column for each column, the table is
@@ -48,8 +48,8 @@ pub struct Look {
     /// True if the header is written in bold.
     pub has_bold_header: bool,
     /// True if the decimal points of a column of numbers are put below each other, by spaces after
-    /// its fields. The flag has no effect in Markdown, in expanded records, and if the width has no
-    /// room for these spaces.
+    /// the column's fields. The flag has no effect in Markdown, in expanded records, and if the
+    /// width has no room for these spaces.
     pub aligns_decimals: bool,
     /// True if SGR sequences in fields are written as they are, and take no terminal columns. If
     /// false, the ESC of each sequence is drawn as U+FFFD.
@@ -73,7 +73,7 @@ pub enum RowSeparators {
 }
 
 /// A rule that decides whether records are *expanded*. Each expanded record is drawn as a table of
-/// its own, with a row for the name and the field of each column.
+/// its own, with one row for each drawn field: the name of the column, and the field.
 #[derive(Clone, Copy, Debug, PartialEq, Eq)]
 pub enum Expansion {
     /// Records are expanded if a width is set that has no room for a table with a row for each
@@ -88,13 +88,14 @@ pub enum Expansion {
     Never,
 }
 
-/// A column that is drawn, and how its fields are aligned and wrapped.
+/// The plan of a column that is drawn: the position of its fields in the records, and the way in
+/// which the fields are aligned and wrapped.
 #[derive(Clone, Copy, Debug)]
 pub struct ColumnPlan {
     /// The position of the column's field in each record, counted from 0.
     pub position: usize,
-    /// The alignment of the column's cells. `None` leaves the cells left-aligned, unless their
-    /// settings align them otherwise.
+    /// The alignment of the column's cells. With `None`, a cell is left-aligned, unless the
+    /// settings of the cell set an alignment.
     pub alignment: Option<CellAlignment>,
     /// The decimal mark of the column and the length of its longest fraction, with which decimal
     /// marks can be put below each other. `None` if the column isn't right-aligned, or has no

@@ -32,9 +32,11 @@ use csv_records::Records;
 use std::alloc::{AllocError, Global};
 use std::fmt::Write;
 
-/// Draws records piece by piece. `count` is the number of records below the header, or `None` if
-/// this number isn't known. If not all of these records are drawn, a last line reports their
-/// number, or that there are more. The only error is `OutOfMemory`.
+/// Draws `records` as `layout` describes. The result returns the text of the drawing piece by
+/// piece. `count` is the number of records below the header, or `None` if this number isn't known.
+/// If `layout` has a limit below `count`, a last line such as `2 of 3 records` comes after the
+/// table. If it has a limit and `count` is `None`, this line says that there are more records. The
+/// only error is `OutOfMemory`.
 pub fn drawn_records(
     alloc: Global,
     records: Records,
@@ -46,14 +48,16 @@ pub fn drawn_records(
     drawn_styled_records(alloc, records, count, layout, Settings::none(alloc))
 }
 
-/// Draws records as `drawn_records` does, with settings of columns, rows and cells. The settings
-/// have no effect in Markdown and in expanded records. If there are settings of rows, colours and
-/// attributes are written even if the output isn't a terminal. The only error is `OutOfMemory`.
+/// Draws `records` as `drawn_records` does, with the settings of columns, rows and cells in
+/// `settings`. The settings have no effect in Markdown, nor in expanded records (`Expansion`). If
+/// there are settings of rows, colours and attributes are written even if the output isn't a
+/// terminal. The only error is `OutOfMemory`.
 ///
 /// Columns keep numbers, dates and words whole as far as the look's width allows, but no column
-/// exceeds its greatest width. A column with a greatest width is no wider than its longest wrapped
-/// line, unless its least width is greater. No column has its decimal points below each other if a
-/// greatest width would wrap the texts of a column with decimal points.
+/// exceeds its greatest width (`ColumnSettings::greatest`). A column with a greatest width is no
+/// wider than its longest wrapped line, unless its least width is greater. If a greatest width
+/// would wrap texts of a column with decimal points, no column of the table has its decimal points
+/// below each other.
 pub fn drawn_styled_records(
     alloc: Global,
     records: Records,
@@ -80,8 +84,8 @@ pub fn drawn_styled_records(
     RecordDrawing::of_records(String::new(alloc), left)
 }
 
-/// Draws records as `drawn_records` does, but returns the whole drawing as one text. The only error
-/// is `OutOfMemory`.
+/// Draws `records` as `drawn_records` does, but returns the whole drawing as one text. The only
+/// error is `OutOfMemory`.
 pub fn text_of_records(
     alloc: Global,
     records: Records,
@@ -95,7 +99,8 @@ pub fn text_of_records(
     Ok(joined(alloc, drawn)?)
 }
 
-/// Draws the records of a whole input as one text, which is empty if there are no records. The only
+/// Draws all records of an input as `drawn_records` does, but returns one text. The number of
+/// records below the header is that in `records`. The text is empty if `records` is empty. The only
 /// error is `OutOfMemory`.
 pub fn output_of_records(alloc: Global, records: Records, layout: &Layout) -> Result<String>
     ensures { IfOk result (λ output.
@@ -104,8 +109,9 @@ pub fn output_of_records(alloc: Global, records: Records, layout: &Layout) -> Re
     output_of_styled_records(alloc, records, layout, Settings::none(alloc))
 }
 
-/// Draws the records of a whole input as `drawn_styled_records` does, but returns one text, which
-/// is empty if there are no records. The only error is `OutOfMemory`.
+/// Draws all records of an input as `drawn_styled_records` does, but returns one text. The number
+/// of records below the header is that in `records`. The text is empty if `records` is empty. The
+/// only error is `OutOfMemory`.
 pub fn output_of_styled_records(
     alloc: Global,
     records: Records,

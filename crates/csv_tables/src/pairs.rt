@@ -23,8 +23,8 @@ use comfy_table::{PartEnds, Result, RowWriter, Table};
 use csv_records::Record;
 
 impl RecordRows {
-    /// The content width of the widest drawn field of an expanded record, in terminal columns; 0 if
-    /// the record has no drawn field. The only error is `OutOfMemory`.
+    /// The content width of the widest drawn field of the expanded record `fields`, in terminal
+    /// columns. The width is 0 if the record has no drawn field. The only error is `OutOfMemory`.
     pub fn field_width(&self, table: &Table, fields: &Record<'_>) -> Result<u16>
         ensures { IfOk result (λ width. width
             ≡ greatest_at table.now cell_content_width (pairs_by self.now fields.now) 1) }
@@ -48,9 +48,10 @@ impl RecordRows {
         Ok(cell.content_width(table))
     }
 
-    /// The content width of the widest column name in the rows of an expanded record, in terminal
-    /// columns. `count` is the record's number of fields. The width is 0 if the record has no drawn
-    /// field. The only error is `OutOfMemory`.
+    /// The content width of the widest column name in the rows of an expanded record that has
+    /// `count` fields, in terminal columns. A column without a name is named by its number. The
+    /// width is 0 if no column that is drawn is among the first `count` columns. The only error is
+    /// `OutOfMemory`.
     pub fn name_width(&self, table: &Table, count: usize) -> Result<u16>
         ensures { IfOk result (λ width. width ≡ names_width table.now self.now count) }
     {
@@ -116,11 +117,11 @@ impl RecordRows {
         push_text(cells, self.alloc(), "", 0, None, false, &self.look)
     }
 
-    /// Appends the row of one field of an expanded record: the name of the column at the place
-    /// `place`, counted from 0, and the field. The top border comes before the row if `is_first` is
-    /// true, and the row separator otherwise. `cells` is an empty list at first, and keeps the
-    /// cells of the names for later records. The field's cell in the list is replaced. The only
-    /// error is `OutOfMemory`.
+    /// Appends the row of one field of an expanded record to `text`: the name of the column, and
+    /// the field. `place` is the column's place among the drawn columns, counted from 0. If
+    /// `is_first` is true, the top border comes before the row, and otherwise the row separator.
+    /// Pass an empty list `cells` first, and then the same list again: it keeps the cells of the
+    /// names. The only error is `OutOfMemory`; `text` is then unchanged.
     pub fn push_pair<'r>(
         &'r self,
         text: &mut String,
@@ -151,9 +152,10 @@ impl RecordRows {
         writer.push_cells(text, pair, self.look.max_height, extent)
     }
 
-    /// The width of the widest number or date in the drawn fields of a record, in terminal columns.
-    /// Only lines that take at most `room` terminal columns count. The width is 0 if no such number
-    /// or date is drawn. The only error is `OutOfMemory`.
+    /// The width, in terminal columns, of the widest number or date in the drawn fields of the
+    /// record `fields`. A text line counts if `is_nowrap` is true for it, and if it takes at most
+    /// `room` terminal columns. The width is 0 if there is no such text line. The only error is
+    /// `OutOfMemory`.
     pub fn nowrap_width(&self, table: &Table, fields: &Record<'_>, room: u16) -> Result<u16>
         ensures value { IfOk result (λ width. width ≡ greatest_at table.now
             (cell_nowrap_width room) (pairs_by self.now fields.now) 1) }
@@ -179,10 +181,10 @@ impl RecordRows {
         cell_nowrap_width(self.alloc(), table, &cell, room)
     }
 
-    /// The width of the longest line of the cells at a position in the rows of an expanded record,
-    /// in terminal columns. Names are at position 0, and fields at position 1. Texts are wrapped as
-    /// in the column `info`. The width is 0 at other positions, or if the record has no drawn
-    /// field. The only error is `OutOfMemory`.
+    /// The width, in terminal columns, of the longest line in a column of the table of the expanded
+    /// record `fields`. If `position` is 0, this is the column of names, and if it is 1, the column
+    /// of fields. Texts are wrapped as in the column `info`. The width is 0 for any other
+    /// `position`, or if the record has no drawn field. The only error is `OutOfMemory`.
     pub fn longest_in_pairs(
         &self,
         table: &Table,

@@ -26,9 +26,13 @@ use comfy_table::{PartEnds, Result, RowWriter, Table};
 use csv_records::Record;
 use std::alloc::{AllocError, Global};
 
-/// The rows of records: one row for each record, or one row for each field of expanded records. The
-/// only error of the functions is `OutOfMemory`. In their parameters, `fields` is a record, and
-/// `at` is its place among the drawn records, counted from 0.
+/// The rows of records: one row for each record, or one row for each field of expanded records. An
+/// expanded record is drawn as a table of its own (`Expansion`). The only error of the functions is
+/// `OutOfMemory`.
+///
+/// In the parameters of the functions, `fields` is a record, and `at` is its place among the drawn
+/// records, counted from 0. `table` is the table of the rows; it decides whether SGR sequences
+/// count when texts are measured.
 #[derive(Drop)]
 pub(crate) struct RecordRows {
     pub selected: SelectedRecords,
@@ -42,8 +46,9 @@ pub(crate) struct RecordRows {
 }
 
 impl RecordRows {
-    /// The table with its look and its header, but without its rows. There is no header if records
-    /// are expanded, or if no record is the header. The only error is `OutOfMemory`.
+    /// A table with the frame and the width of the look, and with the header, but without rows.
+    /// There is no header if records are expanded, or if no record is the header. The only error is
+    /// `OutOfMemory`.
     pub fn headed_table(&self) -> Result<Table>
         ensures { IfOk result (λ table. table ≡ headed_by self.now) }
     {
@@ -56,10 +61,11 @@ impl RecordRows {
         }
     }
 
-    /// Raises the content widths in `widths`, in terminal columns, until they have room for the row
-    /// of the record `fields`, which is at the place `at`, counted from 0. Returns true only if
-    /// each cell of the row has at most one text line. The settings of rows and cells change
-    /// neither the widths nor the result. The only error is `OutOfMemory`.
+    /// Raises the content widths in `widths` until each column has room for its cell in the row of
+    /// the record `fields`. The widths are counted in terminal columns, and missing widths are
+    /// appended. `at` is the record's place, counted from 0. Returns true only if each cell of the
+    /// row has at most one text line. The settings of rows and cells change neither the widths nor
+    /// the result. The only error is `OutOfMemory`; some widths may then be raised.
     pub fn widen(
         &self,
         widths: &mut Vec<u16>,
@@ -110,10 +116,10 @@ impl RecordRows {
         Ok(has_one_line(&cell))
     }
 
-    /// Appends the lines of a record's row to `text`. `fields` is the record, and `at` its place,
+    /// Appends the lines of the row of the record `fields` to `text`. `at` is the record's place,
     /// counted from 0. If `is_first` is true, the top border and the header come above these lines,
-    /// and otherwise the row separator. The memory of `cells` is used again for each row. The only
-    /// error is `OutOfMemory`.
+    /// and otherwise the row separator. `cells` may have any content, and has the cells of the row
+    /// after the call. The only error is `OutOfMemory`; `text` is then unchanged.
     pub fn push_row<'r>(
         &'r self,
         text: &mut String,
@@ -137,9 +143,9 @@ impl RecordRows {
         writer.push_cells(text, cells.as_slice(), limit, extent)
     }
 
-    /// Returns true if the row of a record is drawn in more than one line. `fields` is the record,
-    /// and `at` its place, counted from 0. The memory of `cells` is used again for each row. The
-    /// only error is `OutOfMemory`.
+    /// Returns true if the row of the record `fields` is drawn in more than one line. `at` is the
+    /// record's place, counted from 0. `cells` may have any content, and has the cells of the row
+    /// after the call. The only error is `OutOfMemory`.
     pub fn is_tall<'r>(
         &'r self,
         writer: &RowWriter<'_>,
@@ -156,10 +162,11 @@ impl RecordRows {
         Ok(height > 1)
     }
 
-    /// The width, in terminal columns, of the longest line of the cells at a position in the rows
-    /// of a record. `fields` is the record, and `at` its place, counted from 0. Texts are wrapped
-    /// as in the column `info`. The width is 0 if there are no such cells. The only error is
-    /// `OutOfMemory`.
+    /// The width, in terminal columns, of the longest line that the record `fields` has in a column
+    /// of the table. `position` is the index of this column, counted from 0; a column of record
+    /// numbers is counted too. `at` is the record's place, counted from 0. Texts are wrapped as in
+    /// the column `info`. The width is 0 if the record has no cell in this column. The only error
+    /// is `OutOfMemory`.
     pub fn longest_line(
         &self,
         table: &Table,
@@ -182,10 +189,11 @@ impl RecordRows {
         cell.longest_line(table, info)
     }
 
-    /// The width, in terminal columns, that a column needs for the cell at `position` in the row of
-    /// a record. `fields` is the record, and `at` its place, counted from 0. The width is that of
-    /// the whole cell if `is_nowrap` is true, and otherwise that of its widest word. It is 0 if
-    /// there is no such cell. The only error is `OutOfMemory`.
+    /// The width, in terminal columns, that a column of the table needs for its cell in the row of
+    /// the record `fields`. `position` is the index of the column, counted from 0; a column of
+    /// record numbers is counted too. `at` is the record's place, counted from 0. The width is that
+    /// of the whole cell if `is_nowrap` is true, and otherwise that of the cell's widest word. The
+    /// width is 0 if the record has no cell in this column. The only error is `OutOfMemory`.
     pub fn cell_need(
         &self,
         table: &Table,

@@ -18,7 +18,7 @@ use csv_records::{Record, Records, Rows};
 use std::alloc::{AllocError, Global};
 use std::marker::Model;
 
-/// Records, with the header, the rows and the columns of these records that are drawn.
+/// Records, and the choice of what is drawn of them: the header, the rows and the columns.
 #[derive(Drop)]
 pub struct SelectedRecords {
     pub(crate) alloc: Global,
@@ -61,9 +61,9 @@ impl Model for SelectedRecords {
 }
 
 impl SelectedRecords {
-    /// Selects the rows and the columns of `records` that are drawn. `count` is the number of
-    /// records below the header, or `None` if this number isn't known. The only error is
-    /// `OutOfMemory`.
+    /// Selects the header, the rows and the columns of `records` that `layout` draws. `count` is
+    /// the number of records below the header, or `None` if this number isn't known. The only error
+    /// is `OutOfMemory`.
     pub fn new(
         alloc: Global,
         records: Records,
@@ -115,7 +115,8 @@ impl SelectedRecords {
         Ok(selected)
     }
 
-    /// The header, or `None` if no record is the header.
+    /// The header, or `None` if no record is the header. After `with_header` there is always a
+    /// header, which may have no fields.
     pub(crate) fn names(&self) -> Option<Record<'_>>
         ensures { result ≡ self.now.names }
     {
@@ -151,9 +152,9 @@ impl SelectedRecords {
         self.records.rows().hold_texts();
     }
 
-    /// The drawn columns up to the last one of which the record `row` has a field. Later columns
-    /// aren't examined, so that a record of few fields takes little time, however many columns
-    /// there are.
+    /// The drawn columns up to the last one for which the record `row` has a field. Later columns
+    /// aren't examined, so that a record of few fields takes little time, however many columns are
+    /// drawn.
     pub(crate) fn columns_within(&self, row: &Record<'_>) -> &[ColumnPlan]
         ensures { result.now ≡ columns_within row.now self.now.columns }
     {
@@ -179,8 +180,8 @@ impl SelectedRecords {
         }
     }
 
-    /// The alignment of each column, beginning with the column of record numbers if records are
-    /// numbered.
+    /// The alignment of each drawn column, in their order. If records are numbered, the first
+    /// alignment is that of the column of record numbers.
     pub(crate) fn sides(&self) -> Result<Vec<Option<CellAlignment>>, AllocError>
         ensures { IfOk result (λ made. made.items ≡ sides self.now) }
     {

@@ -8,8 +8,8 @@ ghost use Rattle.csv_tables.specs.Drawn.{column_count, drawn_rows, filled_column
 use csv_records::{Record, Rows};
 use std::marker::Model;
 
-/// The header of records, the greatest number of records that are drawn, and the way in which
-/// records are counted.
+/// The choice of the records that are drawn: whether the first record is the header, how many
+/// records are drawn, and how records are counted.
 #[derive(Clone, Copy, Debug)]
 pub struct Selection {
     /// True if the first record is the header.
@@ -17,14 +17,16 @@ pub struct Selection {
     /// The greatest number of records below the header that are drawn; `None` draws all.
     pub limit: Option<usize>,
     /// True if a first column `#` shows the number of each record below the header, counted from 1.
-    /// This column has no position, and doesn't change the positions of the others. Expanded
-    /// records don't have it, because a line with its number is above each of them.
+    /// This column isn't counted in positions, so the first field still has position 0. Expanded
+    /// records (`Expansion`) don't have this column: the line above each of them, such as `record 1
+    /// of 2`, has the number.
     pub is_numbered: bool,
     /// The word for a record in the lines that count records, such as `record 1 of 2`.
     pub noun: Noun,
 }
 
-/// The word for a record in the lines that count records.
+/// The word for a record in the lines that count records, such as `record 1 of 2` and `2 of 3
+/// rows`.
 #[derive(Clone, Copy, Debug, PartialEq, Eq)]
 pub enum Noun {
     /// The word is `record`, as in `record 1 of 2`.
@@ -56,29 +58,32 @@ impl Noun {
 }
 
 impl Selection {
-    /// The header of `records`, or a record without fields if there is no header.
+    /// The header of `records`: the first record, or a record without fields if `has_header` is
+    /// false or there are no records.
     pub fn names<'a>(&self, records: &Rows<'a>) -> Record<'a>
         ensures { result ≡ names_or_none self.now records.now }
     {
         names_of(records, self.has_header).unwrap_or(records.blank())
     }
 
-    /// The records below the header that are drawn.
+    /// The records that are drawn: the first `limit` of `records`, or all if `limit` is `None`. The
+    /// header is neither counted nor returned.
     pub fn rows<'a>(&self, records: &Rows<'a>) -> Rows<'a>
         ensures { result ≡ drawn_rows self.now records.now }
     {
         limited(&records_below(records, self.has_header), self.limit)
     }
 
-    /// The number of columns: the greatest number of fields of the header or of a drawn record.
+    /// The number of columns of `records`: the greatest number of fields in the header or in a
+    /// drawn record. 0 if there are no fields.
     pub fn column_count(&self, records: &Rows<'_>) -> usize
         ensures { result ≡ column_count self.now records.now }
     {
         count_of(&self.names(records), &self.rows(records))
     }
 
-    /// The number of columns up to the last one with a name or a drawn field that isn't empty. The
-    /// number is at least 1, unless there are no columns.
+    /// The number of columns of `records` up to the last one that has a name or a drawn field that
+    /// isn't empty. The number is at least 1, or 0 if there are no columns.
     pub fn filled_columns(&self, records: &Rows<'_>) -> usize
         ensures { result ≡ filled_columns self.now records.now }
     {
@@ -119,10 +124,11 @@ impl Model for Columns {
 }
 
 impl Columns {
-    /// Selects the columns to draw, in their order, and sets which of them are right-aligned and
-    /// left-aligned. A position in both `right` and `left` is right-aligned. A column in neither
-    /// list is right-aligned if its fields are numbers. No record needs to have fields at the
-    /// positions in the lists.
+    /// Selects the columns to draw, in the order of `drawn`, and sets which columns are
+    /// right-aligned and left-aligned. The lists have the columns' positions, counted from 0. A
+    /// position in both `right` and `left` is right-aligned. A column in neither of these two lists
+    /// is right-aligned if its fields are numbers. The lists may have positions at which no record
+    /// has a field.
     pub fn new(drawn: Vec<usize>, right: Vec<usize>, left: Vec<usize>) -> Columns
         ensures { result
             ≡ record { drawn = drawn.items; right = right.items; left = left.items } }
@@ -181,14 +187,15 @@ fn filled_len(names: &Record<'_>, rows: &Rows<'_>) -> usize
     filled
 }
 
-/// The header, or `None` if no record is the header.
+/// The first of `records` as the header, or `None` if `has_header` is false or there are no
+/// records.
 pub(crate) fn names_of<'a>(records: &Rows<'a>, has_header: bool) -> Option<Record<'a>>
     ensures { result ≡ names_of has_header records.now }
 {
     if has_header { records.first() } else { None }
 }
 
-/// The records below the header.
+/// The records of `records` without the header, which is the first record if `has_header` is true.
 pub(crate) fn records_below<'a>(records: &Rows<'a>, has_header: bool) -> Rows<'a>
     ensures { result ≡ records_below has_header records.now }
 {
@@ -199,7 +206,7 @@ pub(crate) fn records_below<'a>(records: &Rows<'a>, has_header: bool) -> Rows<'a
     }
 }
 
-/// The first `limit` rows, or all if there is no limit.
+/// The first `limit` of `rows`, or all if `limit` is `None`.
 pub(crate) fn limited<'a>(rows: &Rows<'a>, limit: Option<usize>) -> Rows<'a>
     ensures { result ≡ limited limit rows.now }
 {

@@ -13,8 +13,8 @@ use crate::options::RowSeparators;
 use crate::rows::RecordRows;
 use comfy_table::{ArrangedTable, LineStyle, Result, RowWriter, TableStyle};
 
-/// Leaves out the lines that a table's style has between rows, unless the rule `separators` draws
-/// these lines.
+/// Leaves out the lines that the style of `contents` has between rows, unless the rule `separators`
+/// draws these lines.
 pub(crate) fn separate_rows(contents: &mut LazyTable, separators: RowSeparators) -> Result<()>
     requires { contents.old.rows.is_expanded ≡ false }
     ensures table { OnOk result (AreRowsSeparated separators contents.old.table
@@ -31,8 +31,9 @@ pub(crate) fn separate_rows(contents: &mut LazyTable, separators: RowSeparators)
     }
 }
 
-/// Leaves out the lines between the fields of expanded records, unless the rule is `Styled`. With
-/// `Needed`, fields of several lines need no lines between them, because names separate the fields.
+/// Leaves out the lines between the fields of expanded records, unless the rule `separators` is
+/// `Styled`. With `Needed`, fields of several lines need no lines between them, because names
+/// separate the fields.
 pub(crate) fn separate_fields(contents: &mut LazyTable, separators: RowSeparators)
     ensures table { AreRowsSeparated (separators_in true separators) contents.old.table
         contents.new.table }

@@ -1,5 +1,6 @@
 //! The settings that columns, rows and cells may have in a table that has one row for each record.
-//! The settings have no effect in Markdown and in expanded records.
+//! The settings have no effect in Markdown, nor in *expanded records*, each of which is drawn as a
+//! table of its own (`Expansion`).
 
 ghost use Rattle.std.specs.Prelude.{◌≡◌, [], IfOk, None, Some, option_map, slice_get, true};
 ghost use Rattle.std.specs.Option.{option_or};
@@ -13,11 +14,12 @@ use std::alloc::Global;
 use std::marker::Model;
 
 /// The settings of a column in a table that has one row for each record. All widths are counted in
-/// terminal columns. The settings have no effect in Markdown and in expanded records.
+/// terminal columns. The settings have no effect in Markdown, nor in expanded records, each of
+/// which is drawn as a table of its own (`Expansion`).
 #[derive(Clone, Copy, Debug, PartialEq, Eq)]
 pub struct ColumnSettings {
-    /// The numbers of terminal columns that stay free to the left and to the right of the column's
-    /// texts.
+    /// The numbers of terminal columns that stay free on the left and on the right of the column's
+    /// texts, in this order.
     pub padding: (u16, u16),
     /// The least width of the column without its paddings. `None` sets no least width.
     pub least: Option<u16>,
@@ -30,8 +32,8 @@ pub struct ColumnSettings {
 }
 
 impl ColumnSettings {
-    /// The settings of a column for which nothing is set: one terminal column is left free on both
-    /// sides.
+    /// The settings of a column for which nothing is set. One terminal column stays free on each
+    /// side of the column's texts, there is no least or greatest width, and texts aren't centred.
     pub fn none() -> ColumnSettings
         ensures { result ≡ unset }
     {
@@ -45,7 +47,8 @@ impl ColumnSettings {
 }
 
 /// The settings of a cell in a table that has one row for each record. The settings have no effect
-/// in Markdown and in expanded records.
+/// in Markdown, nor in expanded records, each of which is drawn as a table of its own
+/// (`Expansion`).
 #[derive(Debug)]
 pub struct CellSettings {
     /// The alignment of the cell; `None` keeps the alignment of its column.
@@ -84,7 +87,7 @@ impl Model for CellSettings {
 }
 
 impl CellSettings {
-    /// The alignment of these settings if they set one, and otherwise `alignment`.
+    /// The alignment that these settings set, or `alignment` if they set none.
     pub(crate) fn side(&self, alignment: Option<CellAlignment>) -> Option<CellAlignment>
         ensures { result ≡ option_or self.now.alignment alignment }
     {
@@ -100,9 +103,9 @@ impl CellSettings {
         self.foreground.is_none() && self.background.is_none() && self.attributes.is_empty()
     }
 
-    /// The cell with the alignment and the colours that these settings set; otherwise the cell
-    /// keeps its own. The attributes of the settings come after the cell's own attributes. The only
-    /// error is `OutOfMemory`.
+    /// Returns `cell` with these settings. An alignment or a colour in the settings replaces that
+    /// of the cell, and `None` keeps that of the cell. The attributes of the settings come after
+    /// the cell's own attributes. The only error is `OutOfMemory`.
     pub fn dressed(&self, cell: Cell) -> Result<Cell>
         ensures { IfOk result (λ made. made ≡ dressed (Some self.now) cell) }
     {
@@ -140,15 +143,16 @@ fn coloured(cell: Cell, foreground: Option<Color>, background: Option<Color>) ->
 }
 
 /// The settings of a row in a table that has one row for each record. The settings have no effect
-/// in Markdown and in expanded records.
+/// in Markdown, nor in expanded records, each of which is drawn as a table of its own
+/// (`Expansion`).
 #[derive(Debug)]
 pub struct RowSettings {
     /// The greatest number of lines of the row; 0 counts as 1. `None` keeps the `max_height` of the
-    /// `Look`. The field has no effect for the header.
+    /// `Look`. The header is never cut, whatever `max_height` is.
     pub max_height: Option<usize>,
-    /// The settings of the row's cells. The item at a position is for the field at this position of
-    /// the record. Fields past the last item have no settings, and neither has the cell with the
-    /// record's number.
+    /// The settings of the row's cells. The item at an index is for the field at this position in
+    /// the record, both counted from 0. Fields past the last item have no settings, and neither has
+    /// the cell with the record's number.
     pub cells: Vec<CellSettings>,
 }
 
@@ -170,8 +174,8 @@ impl Model for RowSettings {
 }
 
 impl RowSettings {
-    /// The greatest number of lines of the row, or `None` without a limit. If these settings have
-    /// no limit, it is `limit`.
+    /// The greatest number of lines of the row: `max_height`, or `limit` if `max_height` is `None`.
+    /// `None` means that there is no limit.
     pub(crate) fn limit(&self, limit: Option<usize>) -> Option<usize>
         ensures { result ≡ option_or self.now.max_height limit }
     {
@@ -187,12 +191,12 @@ impl RowSettings {
 }
 
 /// The settings of a table that has one row for each record. The settings have no effect in
-/// Markdown and in expanded records.
+/// Markdown, nor in expanded records, each of which is drawn as a table of its own (`Expansion`).
 #[derive(Debug)]
 pub struct Settings {
-    /// The settings of the table's columns. The item at a position is for the fields at this
-    /// position of the records. Columns past the last item have no settings, and neither has the
-    /// column that shows the numbers of records.
+    /// The settings of the table's columns. The item at an index is for the fields at this position
+    /// in the records, both counted from 0. Columns past the last item have no settings, and
+    /// neither has the column that shows the numbers of records.
     pub columns: Vec<ColumnSettings>,
     /// The settings of the table's rows. The first item is for the header, and isn't used if there
     /// is no header. The items after it are for the records below the header, in their order.
@@ -218,7 +222,7 @@ impl Model for Settings {
 }
 
 impl Settings {
-    /// The settings of a table for which nothing is set.
+    /// The settings of a table for which nothing is set: both lists are empty.
     pub fn none(alloc: Global) -> Settings
         ensures { result ≡ no_settings }
     {
@@ -243,7 +247,7 @@ impl Settings {
     }
 }
 
-/// The settings of the cells of a row. The list is empty if the row has no settings.
+/// The settings of the cells of `row`. The list is empty if `row` is `None`.
 #[inline(always)]
 pub(crate) fn cell_settings(row: Option<&RowSettings>) -> &[CellSettings]
     ensures { result.now ≡ cell_settings (option_map (λ row. row.now) row.entry) }
@@ -254,7 +258,8 @@ pub(crate) fn cell_settings(row: Option<&RowSettings>) -> &[CellSettings]
     }
 }
 
-/// The settings of the cell of the field at a position, or `None` if the cell has no settings.
+/// The settings of the cell of the field at `position`, which is counted from 0. `None` if
+/// `settings` ends before this position.
 #[inline(always)]
 pub(crate) fn settings_of(settings: &[CellSettings], position: usize) -> Option<&CellSettings>
     ensures { option_map (λ own. own.now) result ≡ slice_get settings.now position }
@@ -262,8 +267,9 @@ pub(crate) fn settings_of(settings: &[CellSettings], position: usize) -> Option<
     settings.get(position)
 }
 
-/// The greatest number of lines of a row: the limit of its settings if they have a limit, and
-/// otherwise the look's `max_height`. `None` means that there is no limit.
+/// The greatest number of lines of a row with the settings `row`: the `max_height` of these
+/// settings if they have one, and otherwise the `max_height` of `look`. `None` means that there is
+/// no limit.
 #[inline(always)]
 pub(crate) fn limit_by(row: Option<&RowSettings>, look: &Look) -> Option<usize>
     ensures { result ≡ limit_by (option_map (λ row. row.now) row.entry) look.now }

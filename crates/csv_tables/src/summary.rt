@@ -25,12 +25,12 @@ pub(crate) struct ColumnSummary {
     /// The summary of decimal marks, from which the decimal mark of the column follows. `None`
     /// unless each field is narrow (`is_narrow`), and is a plain number or neutral.
     pub(crate) marks: Option<ColumnMarks>,
-    /// True if no field is to be broken over lines (`is_nowrap`): each is a short number, date or
-    /// time, or neutral.
+    /// True if no field is to be broken over lines (`is_nowrap`): each field is a short number,
+    /// date or time, a time stamp, or neutral.
     pub(crate) are_nowrap: bool,
 }
 
-/// The kind of a field, by which its column is aligned.
+/// The kind of a field. The kinds of a column's fields decide how the column is aligned.
 #[derive(Clone, Copy)]
 pub(crate) enum FieldKind {
     Number,
@@ -110,8 +110,9 @@ impl ColumnSummary {
     }
 }
 
-/// The summary of the visible texts of each column, by its position. Columns after the last field
-/// of a record aren't examined for this record, because many records may have few of the columns.
+/// The summary of the visible texts of each column's fields, by the column's position. Columns
+/// after the last field of a record aren't examined for this record, because many records may have
+/// few of the columns.
 pub(crate) fn summaries_of(
     alloc: Global,
     rows: &Rows<'_>,
@@ -166,8 +167,8 @@ fn add_field(
     Ok(())
 }
 
-/// The summary of the fields of the column at a position, or the summary of no fields if the list
-/// has no such column.
+/// The summary of the fields of the column at `position`, or the summary of no fields if
+/// `summaries` ends before this position.
 pub(crate) fn summary_at(summaries: &[ColumnSummary], position: usize) -> ColumnSummary
     ensures { result ≡ slice_index_or summaries.now position (summary_of []) }
 {

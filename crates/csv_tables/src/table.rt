@@ -83,7 +83,8 @@ fn arrangement_of(look: &Look) -> ContentArrangement
     }
 }
 
-/// The look of a table for Markdown, whatever else `look` sets.
+/// The look of a table for Markdown: `look` with the style of Markdown, but without a width, a
+/// greatest height, a bold header and SGR sequences.
 pub(crate) fn markdown_look(look: Look) -> Look
     ensures { result ≡ markdown_look look }
 {

@@ -19,8 +19,8 @@ pub trait Source {
     // true if the end was read: a call with a buffer that isn't empty returned 0
     ghost end_was_read: { Self → Bool };
 
-    /// Reads the next bytes of the source into the front of the buffer, and returns their number.
-    /// If the buffer isn't empty, 0 means that the end of the source was read.
+    /// Reads the next bytes of the source into the front of `buffer`, and returns the number of
+    /// bytes. If `buffer` isn't empty, 0 means that the end of the source was read.
     ///
     /// The only error is that the source has failed. After it every later call fails too.
     fn read(&mut self, buffer: &mut [u8]) -> Result<usize, DeviceFault>
@@ -50,8 +50,8 @@ pub trait Sink {
     // true if the sink has failed
     ghost has_failed: { Self → Bool };
 
-    /// Writes bytes from the front of the piece, and returns their number, which is at least 1 if
-    /// the piece isn't empty.
+    /// Writes bytes from the front of `piece`, and returns the number of bytes, which is at least 1
+    /// if `piece` isn't empty.
     ///
     /// The only error is that the sink has failed. A failed call writes no byte, and every later
     /// call fails too.

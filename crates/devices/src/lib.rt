@@ -1,6 +1,6 @@
 //! Devices, which are sources and sinks of bytes: over readers, over writers, and in memory.
-//! `write_all` writes a whole piece to a sink. `run` reads a source, and writes the output for it
-//! to a sink. The arguments of a process are here too.
+//! `write_all` writes a whole piece to a sink. `run` reads a source, and writes the output for its
+//! bytes to a sink. The arguments of a process are here too.
 #![tactic(auto)]
 
 mod device;

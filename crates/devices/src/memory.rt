@@ -34,9 +34,9 @@ impl<'a> Model for MemorySource<'a> {
 }
 
 impl<'a> MemorySource<'a> {
-    /// Makes a source of these bytes. Each call of `read` returns as many bytes as fit the buffer.
-    /// The call of `read` with the number `fails_at`, counted from 1, fails, and so does every
-    /// later call. If `fails_at` is 0, no call fails.
+    /// Makes a source of `bytes`. Each call of `read` reads all bytes that are left, or as many as
+    /// have room in the buffer. The call of `read` with the number `fails_at`, counted from 1,
+    /// fails, and so does every later call. If `fails_at` is 0, no call fails.
     pub fn new(bytes: &'a [u8], fails_at: u64) -> MemorySource<'a>
         ensures { result ≡ record { rest = Some bytes.now; fails_at = fails_at; failed = false } }
     {

@@ -28,7 +28,7 @@ impl<R> Model for FromReader<R> {
 }
 
 impl<R: Read> FromReader<R> {
-    /// Makes a source of the bytes that are left in the reader. The call takes no memory.
+    /// Makes a source of the bytes that are left in `reader`. The call takes no memory.
     pub fn new(reader: R) -> FromReader<R>
         ensures { result ≡ record { reader = reader; fault = None; ended = false } }
     {
@@ -116,7 +116,7 @@ impl<W> Model for ToWriter<W> {
 }
 
 impl<W: Write> ToWriter<W> {
-    /// Makes a sink that writes to this writer. The call takes no memory.
+    /// Makes a sink that writes to `writer`. The call takes no memory.
     pub fn new(writer: W) -> ToWriter<W>
         ensures { result ≡ record { writer = writer; failed = false; fault = None } }
     {

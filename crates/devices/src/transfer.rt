@@ -37,17 +37,17 @@ impl From<AllocError> for ReadError {
 /// The error of `run`: the reason why it stopped before a whole output was written.
 #[derive(Debug, Drop)]
 pub enum Stop<E> {
-    /// A call of the source failed.
+    /// A call of the source failed. Nothing was written.
     Read,
-    /// A call of the sink failed.
+    /// A call of the sink failed, so only a beginning of the output was written, perhaps no byte.
     Write,
-    /// Memory ran out for the input.
+    /// Memory ran out for the input. Nothing was written.
     OutOfMemory,
     /// Memory ran out for a piece of the output, so only a beginning of the output was written,
     /// perhaps no byte.
     Unfinished,
     /// The input has no output, for the reason in this variant. The input was read as a whole, or
-    /// its beginning was enough to refuse it.
+    /// its beginning was enough to refuse it. Nothing was written.
     Refused(E),
 }
 
@@ -66,7 +66,7 @@ impl<E> From<ReadError> for Stop<E> {
 /// output, such as records with too many fields.
 #[derive(Drop)]
 pub struct Rendered<P, N> {
-    /// The text that is to be written, in pieces.
+    /// The output: the text that is to be written to the sink, in pieces.
     pub pieces: P,
     /// The facts that were found about the input, besides the output.
     pub findings: N,
@@ -76,7 +76,7 @@ pub struct Rendered<P, N> {
 pub trait Render {
     /// The reason why an input has no output.
     type Error: Drop;
-    /// The text that is to be written, in pieces.
+    /// The output: the text that is to be written to the sink, in pieces.
     type Output: Pieces + Drop;
     /// Facts about an input that are returned besides its output, such as records with too many
     /// fields. The type is `()` if there are none.
@@ -94,8 +94,8 @@ pub trait Render {
     // true if this is the reason why a whole input, or a beginning that is enough, has no output
     ghost is_refusal: { Self → Extent → List ℕ → Self.Error → Type 0 };
 
-    /// Makes the output for an input that was read as a whole. An error is the reason why the input
-    /// has no output.
+    /// Makes the output for `input`, which was read as a whole. An error is the reason why the
+    /// input has no output.
     fn render(
         &self,
         alloc: Global,
@@ -105,9 +105,9 @@ pub trait Render {
             (IsRenderedBy Self.Output.rest (is_output self.now) (are_findings self.now))
             (is_refusal self.now) Extent.Whole input.items result };
 
-    /// Makes the output for an input from its beginning, after which more bytes may follow. The
-    /// result is `None` if the beginning isn't enough, and more bytes have to be read. An error is
-    /// the reason why the input has no output.
+    /// Makes the output for an input from its beginning `read`, after which more bytes may follow.
+    /// The result is `None` if `read` isn't enough, and more bytes have to be read. An error is the
+    /// reason why the input has no output.
     fn render_beginning(
         &self,
         alloc: Global,
@@ -149,8 +149,8 @@ fn read_up_to<R: Source>(source: &mut R, bytes: &mut Vec<u8>, len: usize) -> Res
     }
 }
 
-/// Writes the whole piece. The only error is that the sink fails. After the error a beginning of
-/// the piece was written, perhaps no byte, but not all of the piece.
+/// Writes the whole `piece` to `sink`. The only error is that the sink fails. After the error a
+/// beginning of `piece` was written, perhaps no byte, but not all of `piece`.
 pub fn write_all<W: Sink>(sink: &mut W, piece: &[u8]) -> Result<(), DeviceFault>
     ensures written { OnOk result ((had : List ℕ) → W.taken sink.old ≡ Some had
         → W.taken sink.new ≡ Some (had ++ piece.now)) }
@@ -170,7 +170,7 @@ pub fn write_all<W: Sink>(sink: &mut W, piece: &[u8]) -> Result<(), DeviceFault>
     Ok(())
 }
 
-/// Reads the source, and writes to the sink the output that `drawing` makes for the bytes that were
+/// Reads `source`, and writes to `sink` the output that `drawing` makes for the bytes that were
 /// read. Returns the findings about these bytes, as `drawing` made them.
 ///
 /// The source is read to its end, or until `render_beginning` makes an output or refuses the input.

@@ -9,9 +9,9 @@ use std::io::{self, ErrorKind, Read, Write};
 // The greatest number of tries for a call, with the first one.
 const TRIES: u32 = 1000;
 
-/// A reader or writer that repeats interrupted calls. If a signal interrupts a call of `read` or
-/// `write`, which then has read or written nothing, the call is made again, up to 1000 times in
-/// all. After that the interruption is returned as an error. Calls of `flush` aren't repeated.
+/// A reader or writer that repeats interrupted calls. A call of `read` or `write` that a signal
+/// interrupts has read or written nothing, and is made again. If the call number 1000 is
+/// interrupted too, the interruption is returned as an error. Calls of `flush` aren't repeated.
 #[derive(Drop)]
 pub struct Uninterrupted<S> {
     stream: S,

@@ -22,9 +22,10 @@ pub fn lines_with_all_texts(table: &Table) -> Result<Lines>
     table.lines()
 }
 
-/// The drawn lines of a table, which have all texts of shown columns unchanged. Each line of a text
-/// is in a line of its own, in its row and column, between frame lines, borders and spaces as in
-/// `lines_with_all_texts`. The only error is `OutOfMemory`.
+/// The drawn lines of a table, which have all texts of shown columns unchanged. Each text line,
+/// which is a part of a text between line feeds, is in a line of its own, in its row and column.
+/// Frame lines, borders and spaces are as in `lines_with_all_texts`. The only error is
+/// `OutOfMemory`.
 ///
 /// This holds under `Disabled`, if no shown column has a constraint, no row has a `max_height`, no
 /// text line takes more than 65535 terminal columns, and `custom_styling` is off.

@@ -31,8 +31,9 @@ pub fn tables_of_rows_keep_the_promises()
         → KeepsRows style arrangement width header rows lines }
 {}
 
-/// A cell with a text of printable ASCII, and without a delimiter of its own, is narrow
-/// (`IsNarrowCell`): each character of its text takes at most one terminal column.
+/// A cell of a printable ASCII text, for which nothing is set, is narrow (`IsNarrowCell`). A narrow
+/// cell has no delimiter of its own, and each character of its text takes at most one terminal
+/// column, as `characters_fit` tests.
 #[tactic(auto, using(crate::proofs::ConditionLemmas::narrow_cell))]
 pub fn printable_texts_are_narrow()
     ensures { (text : Text) → is_printable_ascii text ≡ true → IsNarrowCell (plain_cell text) }

@@ -7,8 +7,9 @@ ghost use Rattle.promises.specs.Added.{AreSameButForHidden, StayWithRow};
 use comfy_table::laws::{hidden_columns_change_nothing, shown_lines_stay};
 use comfy_table::{Lines, Result, Row, Table};
 
-/// The drawn lines of two tables. If the tables differ only in hidden columns and their cells,
-/// their lines are equal. The only error is `OutOfMemory`.
+/// The drawn lines of `table` and those of `other`, in this order. If the tables differ only in
+/// hidden columns and the cells in these columns, both have the same lines. The only error is
+/// `OutOfMemory`.
 pub fn lines_of_both(table: &Table, other: &Table) -> Result<(Lines, Lines)>
     ensures { IfOk result (λ drawn. AreSameButForHidden table.now other.now drawn.0 drawn.1) }
 {
@@ -18,12 +19,14 @@ pub fn lines_of_both(table: &Table, other: &Table) -> Result<(Lines, Lines)>
     Ok((lines, others))
 }
 
-/// Draws a table, appends a row to it, and draws it again. The second drawing has all lines of the
-/// first one, and the lines of the new row are directly above the bottom border. After
-/// `OutOfMemory` the table is unchanged or has the new row.
+/// Draws a table, appends `row` to the table, and draws the table again. Returns the lines of both
+/// drawings in this order. The second drawing has all lines of the first one, and the lines of the
+/// new row are directly above the bottom border. After `OutOfMemory` the table is unchanged or has
+/// the new row.
 ///
 /// This holds under `Disabled`, if `custom_styling` is off and the row has at most as many cells as
-/// there are columns. Each cell of the row must be below a cell that is at least as wide.
+/// there are columns. Each cell of the row must be in the same column as a cell of the table that
+/// is at least as wide.
 pub fn lines_before_and_after(table: &mut Table, row: Row) -> Result<(Lines, Lines)>
     ensures { IfOk result (λ drawn. StayWithRow table.old row drawn.0 drawn.1) }
 {

@@ -17,9 +17,9 @@ use crate::error::Result;
 use crate::style::CellAlignment;
 use std::alloc::Global;
 
-/// Makes a cell of a printable ASCII text, with this alignment and no other setting. The result is
-/// `None` if the text isn't printable ASCII. A caller needs no test of its own, so the bytes are
-/// read only once. The only error is `OutOfMemory`.
+/// Makes a cell of a printable ASCII text, with `alignment` as its alignment and no other setting.
+/// The result is `None` if the text isn't printable ASCII. A caller needs no test of its own, so
+/// the bytes are read only once. The only error is `OutOfMemory`.
 pub fn printable_cell(
     alloc: Global,
     text: &str,
@@ -37,9 +37,9 @@ pub fn printable_cell(
     Ok(Some(Cell::of_lines(alloc, text_lines, alignment)))
 }
 
-/// The text lines of the cell in order, and the width of each in terminal columns. If
-/// `without_sequences` is true, each text line is without its colour sequences. The texts and
-/// widths were computed when the cell was made.
+/// The text lines of the cell in order, and the width of each text line in terminal columns. If
+/// `without_sequences` is true, colour sequences are left out of the text lines and the widths. The
+/// texts and widths were computed when the cell was made.
 pub fn measured_lines(cell: &Cell, without_sequences: bool) -> (&[String], &[usize])
     ensures texts { map string_bytes result.0.now
         ≡ (if without_sequences
@@ -74,11 +74,11 @@ pub fn needs_no_rewrite(text: &str) -> bool
 /// The texts that are written for the lines of the cell after a call of `Table::custom_styling`,
 /// from the top.
 ///
-/// The ends of the lines depend only on the text lines without their colour sequences, which are
-/// wrapped at the content width of `info`. A colour sequence is open until the next `ESC[0m`, also
-/// in later text lines. The text of a line begins with the sequences that are open at its start.
-/// Then it has the line's characters with the sequences between them. It ends with `ESC[0m` if a
-/// sequence is then open. The only error is `OutOfMemory`.
+/// The ends of the lines depend only on the text lines without their colour sequences. These texts
+/// break at `delimiter` and are wrapped for the content width of `info`. A colour sequence is open
+/// until the next `ESC[0m`, also in later text lines. The text of a line begins with the sequences
+/// that are open at its start. Then it has the line's characters with the sequences between them.
+/// It ends with `ESC[0m` if a sequence is then open. The only error is `OutOfMemory`.
 pub fn written_lines(cell: &Cell, info: &ColumnDisplayInfo, delimiter: char) -> Result<Vec<String>>
     ensures { IfOk result (λ texts. map string_bytes texts.items
         ≡ map (λ (line : CellLine). line.written)

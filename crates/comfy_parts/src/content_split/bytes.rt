@@ -5,8 +5,8 @@ ghost use Rattle.std.specs.Char.{is_ascii_digit};
 ghost use Rattle.std.specs.List.{list_all, list_any};
 ghost use Rattle.comfy_parts.specs.Text.{is_printable_ascii};
 
-/// Returns true if all bytes are printable ASCII, from 0x20 to 0x7E, also if there are no bytes.
-/// Each byte is then a character of one terminal column.
+/// Returns true if all bytes are printable ASCII, from 0x20 to 0x7E, or if there are no bytes. Each
+/// byte is then a character of one terminal column.
 pub fn is_printable(bytes: &[u8]) -> bool
     ensures { result ≡ is_printable_ascii bytes.now }
 {
@@ -23,7 +23,8 @@ pub fn is_printable(bytes: &[u8]) -> bool
     highest <= 0x7e - 0x20
 }
 
-/// Returns true if at least one of the bytes is below 0x20. Such a byte is a control character.
+/// Returns true if at least one of `bytes` is below 0x20. Such a byte is a control character. If
+/// there are no bytes, the result is false.
 pub fn has_control(bytes: &[u8]) -> bool
     ensures { result ≡ list_any (λ b. nat_lt b 0x20) bytes.now }
 {
@@ -34,7 +35,7 @@ pub fn has_control(bytes: &[u8]) -> bool
     found
 }
 
-/// Returns true if all bytes are ASCII digits, also if there are no bytes.
+/// Returns true if all bytes are ASCII digits, or if there are no bytes.
 pub fn are_digits(bytes: &[u8]) -> bool
     ensures { result ≡ list_all is_ascii_digit bytes.now }
 {

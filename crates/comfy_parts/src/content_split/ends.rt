@@ -30,7 +30,8 @@ pub fn line_start(text: &str, delimiter: char) -> &str
     rest
 }
 
-// The text before the first delimiter, and the text from this delimiter on.
+// The text before the first delimiter, and the rest of the text, which begins with this delimiter.
+// Without a delimiter, the first text is the whole text, and the rest is empty.
 pub fn first_element(text: &str, delimiter: char) -> (&str, &str)
     ensures { IsFirstElement delimiter text.now result.0.now result.1.now }
 {
@@ -40,8 +41,9 @@ pub fn first_element(text: &str, delimiter: char) -> (&str, &str)
     }
 }
 
-/// The first element of a text (the text before the first delimiter), the text from that delimiter
-/// on, and the width of the element in terminal columns.
+/// Returns the first element of a text, the rest of the text, and the width of the element in
+/// terminal columns. The element is the text before the first delimiter, and the rest begins with
+/// this delimiter. Without a delimiter the element is the whole text, and the rest is empty.
 pub fn measured_element(text: &str, delimiter: char) -> (&str, &str, usize)
     ensures element { IsFirstElement delimiter text.now result.0.now result.1.now }
     ensures columns { result.2 ≡ measure result.0.now }

@@ -8,10 +8,11 @@ ghost use Rattle.comfy_parts.specs.Columns.{character_fits, characters_fit};
 use super::width::char_width;
 
 /// Returns true if each character of the text, by itself, takes at most `width` terminal columns,
-/// and U+FE01 is never directly next to U+FE0E or U+FE0F. Such a text fits a column of this width
-/// in every script: no wrapped line is wider than `width`, if `adds_one_column` is true for the
-/// delimiter. Two terminal columns are enough for every character except U+17D8, which takes three.
-/// The second text below is two ideographs, for which one terminal column is too narrow.
+/// and U+FE01 is never directly next to U+FE0E or U+FE0F. A text of any script that passes this
+/// test fits a column of `width` terminal columns: no wrapped line is wider, if `adds_one_column`
+/// is true for the delimiter. Two terminal columns are enough for every character except U+17D8,
+/// which takes three. The second text below is two ideographs, for which one terminal column is too
+/// narrow.
 /// ```
 /// let is_so = characters_fit("كتاب 👨‍👩‍👧", 2) && !characters_fit("年度", 1);
 /// // true

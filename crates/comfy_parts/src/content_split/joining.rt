@@ -8,12 +8,13 @@ use crate::style::TableStyle;
 
 /// Returns true only if two texts with the character between them always take exactly one terminal
 /// column more than the two texts apart, in every script. The result is true for box and block
-/// characters, `…`, and printable ASCII except `#`, `*` and the digits, which a variation selector
-/// after them makes wide. It is false for every other character, even if that character adds one
-/// terminal column too.
+/// characters, `…`, and printable ASCII except `#`, `*` and the digits: a variation selector after
+/// one of these characters makes the character wide. The result is false for every other character,
+/// even if that character adds one terminal column too.
 ///
-/// The conditions for tables with straight right edges require a true result for each character of
-/// the style, for the delimiters, and for the first character of the truncation indicator.
+/// All lines of a table are equally wide (`IsStraightTable`) under conditions on characters and
+/// texts. A true result for each character of the style, for each delimiter and for the first
+/// character of the truncation indicator meets those on characters.
 #[tactic(auto, using(crate::proofs::FrameCharacterLemmas::frame_adds))]
 pub fn adds_one_column(character: char) -> bool
     ensures test { result ≡ is_frame_character character }
@@ -35,7 +36,7 @@ fn is_frame_character(character: char) -> bool
 
 impl TableStyle {
     /// Returns true if `adds_one_column` is true for each character of the style. Missing
-    /// characters have no influence. The result is true for all presets, also with rounded corners
+    /// characters have no influence. The result is true for all presets, even with rounded corners
     /// or solid inner borders. A true result is one of the conditions under which all lines of a
     /// table are equally wide (`IsStraightTable`).
     pub fn is_one_column(&self) -> bool

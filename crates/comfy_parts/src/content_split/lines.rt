@@ -232,7 +232,7 @@ impl<'a> WrappedLines<'a> {
         }
     }
 
-    /// The width in terminal columns of the widest remaining line, 0 if no line remains.
+    /// The width of the widest remaining line in terminal columns; 0 if no line remains.
     pub fn longest(self) -> usize
         ensures { result ≡ greatest (map measure self.entry) }
     {

@@ -10,7 +10,7 @@ mod table;
 // The table's entry for a character that joins others.
 const JOINS: u32 = 3;
 
-/// The number of bytes of each character for which `begins_wide` is true.
+/// The length in bytes of the first character of each text for which `begins_wide` is true.
 pub const WIDE_LEN: usize = 3;
 
 /// Returns true if a text begins with a character from U+4E00 to U+9FFF or from U+B000 to U+CFFF.

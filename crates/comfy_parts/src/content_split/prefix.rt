@@ -13,9 +13,9 @@ use unicode_width::UnicodeWidthStr;
 // don't show the end of the head have together at most a third of the word's bytes.
 const GROWTH: usize = 4;
 
-/// Splits a word into its head and its rest. The head is the longest prefix of whole grapheme
-/// clusters whose widths add up to at most `allowed_width` terminal columns. The call takes no
-/// memory.
+/// Returns the head of a word and the rest of the word, in this order. The head is the longest
+/// prefix of whole grapheme clusters whose widths add up to at most `allowed_width` terminal
+/// columns. The call takes no memory.
 pub fn split_long_word(allowed_width: usize, word: &str) -> (&str, &str)
     ensures head { result.0.now ≡ head allowed_width word.now }
     ensures rest { result.0.now ++ result.1.now ≡ word.now }

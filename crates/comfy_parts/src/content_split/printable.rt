@@ -7,8 +7,9 @@ ghost use Rattle.comfy_parts.specs.Laws.{IsPrintable};
 ghost use Rattle.comfy_parts.specs.Text.{Text, begins_with, greatest, measure};
 ghost use Rattle.comfy_parts.specs.Wrapping.{line_end, wrapped};
 
-/// The width in terminal columns of the longest line into which a printable ASCII text is wrapped,
-/// 0 if there is no line. The lines themselves aren't made.
+/// The width in terminal columns of the longest line into which a printable ASCII text is wrapped
+/// at `width` terminal columns. The width is 0 if there is no line. The lines themselves aren't
+/// made.
 pub fn printable_longest_line(text: &[u8], width: usize, delimiter: char) -> usize
     requires printable { IsPrintable width delimiter text.now }
     ensures { result ≡ greatest (map measure (wrapped width delimiter text.now)) }
@@ -41,7 +42,7 @@ fn part_at_front(text: &[u8], width: usize, delimiter: char) -> (usize, usize)
 }
 
 /// The number of bytes of the line at the front of a printable ASCII text, which is wrapped at
-/// `width` terminal columns. The text doesn't begin with a delimiter.
+/// `width` terminal columns. The text must not begin with a delimiter.
 pub fn printable_line_end(text: &[u8], width: usize, delimiter: char) -> usize
     requires printable { IsPrintable width delimiter text.now }
     requires begins { begins_with delimiter text.now ≡ false }

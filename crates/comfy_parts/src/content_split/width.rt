@@ -29,7 +29,8 @@ pub fn measure_text_width(text: &str) -> usize
 
 /// The width in terminal columns of a text whose characters don't join others. It is the sum of the
 /// widths of the characters, counted in one pass. The result is `None` if a character may join
-/// others or is a control character. So a text with a width here is one text line without ESC.
+/// others or is a control character. So a text for which the result is a width is one text line
+/// without ESC.
 pub fn summed_columns(text: &str) -> Option<usize>
     ensures clear { IfSome result (IsClearLine text.now) }
     ensures bound { IfSome result (λ columns. columns ≤ 2 * length text.now) }
@@ -49,8 +50,9 @@ pub fn summed_columns(text: &str) -> Option<usize>
     Some(columns)
 }
 
-/// The width of a text in terminal columns, also if its characters join each other, as those of an
-/// emoji sequence do.
+/// The width of any text in terminal columns, even if its characters join each other, as in an
+/// emoji sequence. This is the width that `measure_text_width` returns, but without the faster ways
+/// that `measure_text_width` tries first.
 pub fn joined_columns(text: &str) -> usize
     ensures value { result ≡ measure text.now }
     ensures bound { result ≤ 2 * length text.now }
@@ -58,9 +60,9 @@ pub fn joined_columns(text: &str) -> usize
     text.width()
 }
 
-/// A number of bytes for a word: each suffix of the word with at least this many bytes is wider
-/// than `columns` terminal columns. If no such number is found, the result is greater than the
-/// word's length in bytes.
+/// Returns a number of bytes for `word`: each suffix of `word` with at least this many bytes is
+/// wider than `columns` terminal columns. If no such number is found, the result is greater than
+/// the length of `word` in bytes.
 pub fn wide_end(word: &str, columns: usize) -> usize
     ensures { IsWideFrom columns result word.now }
 {

@@ -7,11 +7,11 @@
 /// ```
 #[derive(Copy, Clone, Debug, PartialEq, Eq)]
 pub enum Width {
-    /// This many terminal columns.
+    /// A width of this many terminal columns.
     Fixed(u16),
-    /// This many percent of the table's width minus its border characters, rounded down. A number
-    /// above 100 counts as 100. If the table's width isn't known, a constraint with this width is
-    /// ignored.
+    /// A width of this many percent of the table's width less its border characters, rounded down.
+    /// A number above 100 counts as 100. If the table's width isn't known, a constraint with this
+    /// width is ignored.
     Percentage(u16),
 }
 

@@ -512,7 +512,7 @@ pub static ALL: [(&str, TableStyle); 13] = [
     ("NOTHING", NOTHING),
 ];
 
-/// The preset whose constant has this name, in capitals. `None` if no preset has this name.
+/// The preset whose constant has the name `name`, in capitals. `None` if no preset has this name.
 ///
 /// ```
 /// table.load_style(by_name("UTF8_FULL").unwrap_or(ASCII_FULL));
@@ -528,8 +528,8 @@ pub fn by_name(name: &str) -> Option<TableStyle>
     None
 }
 
-/// The preset at this position of `ALL`, counted from 0: `ASCII_FULL` comes first, `NOTHING` last.
-/// `None` if the position is the number of presets or greater.
+/// The preset at position `position` of `ALL`, counted from 0: `ASCII_FULL` comes first, `NOTHING`
+/// last. `None` if `position` is the number of presets or greater.
 ///
 /// ```
 /// let is_so = by_position(7) == Some(UTF8_FULL);

@@ -25,7 +25,7 @@ pub enum ContentArrangement {
     Dynamic,
     /// Contents are wrapped as under `Dynamic`, and the table fills its width. Terminal columns
     /// that are left over after each column has a width are divided evenly among all shown columns,
-    /// also those with a constraint. If no width is known, `DynamicFullWidth` does the same as
+    /// including those with a constraint. If no width is known, `DynamicFullWidth` does the same as
     /// `Disabled`.
     DynamicFullWidth,
 }

@@ -227,7 +227,7 @@ pub struct TableStyle {
 }
 
 impl TableStyle {
-    /// A style without characters: only contents are drawn.
+    /// A style without characters: only the texts of cells are drawn, with their paddings.
     pub fn new() -> TableStyle
         ensures { result ≡ nothing }
     {

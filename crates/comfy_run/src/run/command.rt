@@ -21,9 +21,9 @@ const FAILED: u8 = 1;
 
 const MISUSED: u8 = 2;
 
-/// Runs the program `ctable`: reads the source, draws its table with the settings that the
-/// arguments mean, and writes the drawing to the sink. Returns the exit status of the program.
-/// `args` are the arguments after the program's name.
+/// Runs the program `ctable`: reads `source`, draws its tab-separated text as a table with the
+/// settings that the arguments mean, and writes the drawing to `sink`. Returns the exit status of
+/// the program. `args` are the arguments after the program's name.
 ///
 /// The arguments are `[WIDTH|- [disabled|dynamic|full [STYLE]]]`. The first argument is the width
 /// of the table in terminal columns, or a hyphen for no width. The others are the arrangement of

@@ -9,10 +9,11 @@ use crate::settings::Settings;
 use comfy_table::{Result, Table};
 use std::alloc::Global;
 
-/// Makes the table of a text, with these settings. The first line is the header, the other lines
-/// are rows, and TABs separate cells. A carriage return before a line feed isn't part of a line.
-/// After a line feed at the end of the text there is no further line. The only error is
-/// `OutOfMemory`.
+/// Makes the table of `text`, with the settings in `settings`. The first line is the header, the
+/// other lines are rows, and TABs separate cells. U+000B inside a cell means a line feed. A
+/// carriage return before a line feed isn't part of a line. After a line feed at the end of the
+/// text there is no further line, so the table of an empty text has no header and no rows. The only
+/// error is `OutOfMemory`.
 pub fn table_of(alloc: Global, text: &str, settings: Settings) -> Result<Table>
     ensures { IfOk result (λ table. table
         ≡ input_table settings.width settings.arrangement settings.style text.now) }

@@ -11,12 +11,12 @@ use crate::settings::Settings;
 use devices::{Render, Rendered, Sink, Source};
 use std::alloc::Global;
 
-/// Reads the whole source, draws its tab-separated text as a table, and writes the drawing to the
-/// sink. Each line is followed by a line feed.
+/// Reads the whole `source`, draws its tab-separated text as a table with `settings`, and writes
+/// the drawing to `sink`. Each line is followed by a line feed.
 ///
 /// All memory is taken before the first write. A *device* is a source or a sink. The clause on
 /// bytes, `known`, holds for devices whose bytes are known, such as those in memory. The clauses on
-/// failures and on the end of the source hold for all devices, also for the standard streams.
+/// failures and on the end of the source hold for all devices, even for the standard streams.
 ///
 /// # Errors
 ///
@@ -88,10 +88,10 @@ impl Render for Settings {
     }
 }
 
-/// The drawing of the table of a text, each line followed by a line feed. `run` writes the same
-/// drawing for the bytes of this text. The first line of the text is the header, the other lines
-/// are rows, and TABs separate cells. U+000B inside a cell means a line feed. The only error is
-/// `OutOfMemory`.
+/// The drawing of the table of `text` with `settings`, each line followed by a line feed. `run`
+/// writes the same drawing for the bytes of this text. The first line of the text is the header,
+/// the other lines are rows, and TABs separate cells. U+000B inside a cell means a line feed. The
+/// only error is `OutOfMemory`.
 ///
 /// ```
 /// let drawing = render_tsv(rt.alloc(), "name\tdays\noats\t3\n", settings)?;

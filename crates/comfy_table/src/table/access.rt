@@ -26,22 +26,22 @@ impl Table {
         self.rows.is_empty()
     }
 
-    /// The header, which is drawn above the rows; `None` if there is none.
+    /// The header, which is drawn above the rows; `None` if the table has no header.
     pub fn header(&self) -> Option<&Row>
         ensures { option_copied result ≡ self.now.header }
     {
         self.header.as_ref()
     }
 
-    /// The column at a position, counted from 0; `None` after the last one.
+    /// The column at position `index`, counted from 0; `None` after the last column.
     pub fn column(&self, index: usize) -> Option<&Column>
         ensures { option_copied result ≡ slice_get self.now.columns index }
     {
         self.columns.get(index)
     }
 
-    /// A mutable reference to the column at a position, counted from 0; `None` after the last one.
-    /// Writing through it changes this column, and nothing else of the table.
+    /// A mutable reference to the column at position `index`, counted from 0; `None` after the last
+    /// column. Writing through the reference changes this column, and nothing else of the table.
     ///
     /// ```
     /// if let Some(column) = table.column_mut(1) {
@@ -75,16 +75,16 @@ impl Table {
         self.columns.iter_mut()
     }
 
-    /// The row at a position, counted from 0 and without the header; `None` after the last one.
+    /// The row at position `index`, counted from 0 without the header; `None` after the last row.
     pub fn row(&self, index: usize) -> Option<&Row>
         ensures { option_copied result ≡ slice_get self.now.rows index }
     {
         self.rows.get(index)
     }
 
-    /// A mutable reference to the row at a position, counted from 0 and without the header; `None`
-    /// after the last one. Writing through it changes this row, and nothing else of the table. No
-    /// columns are added for new cells: a cell after the last column isn't drawn.
+    /// A mutable reference to the row at position `index`, counted from 0 without the header;
+    /// `None` after the last row. Writing through the reference changes this row, and nothing else
+    /// of the table. No columns are added for new cells: a cell after the last column isn't drawn.
     pub fn row_mut(&mut self, index: usize) -> Option<&mut Row>
         ensures* lent { sem 𝓛 (LendsRow self.entry index result) }
         ensures found { IsSome result ↔ (index < length self.old.rows) }

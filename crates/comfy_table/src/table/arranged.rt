@@ -19,9 +19,10 @@ use comfy_parts::{Column, Result, Row};
 use std::marker::Model;
 
 /// A table with the widths of its columns. It is drawn in parts: some of its rows, with header and
-/// borders, all at the widths of the whole table. Parts are pages of a large table, or records one
-/// below the other. `Table::arranged` makes an `ArrangedTable` from a table, and
-/// `ArrangedTable::of_contents` from a table whose rows are stored outside of it (`TableSource`).
+/// borders, all at the widths of the whole table. For example, the parts are the pages of a large
+/// table, or single records that are drawn one after another. `Table::arranged` makes an
+/// `ArrangedTable` from a table, and `ArrangedTable::of_contents` from a table whose rows are
+/// stored outside of it (`TableSource`).
 ///
 /// Each line of a part is a line of the whole drawing, by the law
 /// `laws::parts_have_lines_of_the_table`.
@@ -100,7 +101,8 @@ impl<C: TableSource> ArrangedTable<C> {
         })
     }
 
-    /// The argument of `of_contents`, or a reference to the table if `Table::arranged` was called.
+    /// The value that this `ArrangedTable` was made from: the argument of `of_contents`, or a
+    /// reference to the table after `Table::arranged`.
     pub fn contents(&self) -> &C
         ensures { result.now ≡ self.now.contents }
     {
@@ -145,9 +147,10 @@ impl<C: TableSource> ArrangedTable<C> {
 
 impl<'a> ArrangedTable<&'a Table> {
     /// Appends a part of the drawing: the table with only `count` of its rows, starting at position
-    /// `first`. Positions are counted from 0, without the header. If the table ends before, the
-    /// part has fewer rows, or only the header and borders. Each line is followed by a line feed.
-    /// After `OutOfMemory` the text is unchanged.
+    /// `first`. Positions are counted from 0, without the header. If the table has fewer rows from
+    /// this position on, the part has only those rows, and perhaps only the header and the borders.
+    /// Each line is followed by a line feed. The only error is `OutOfMemory`; `text` is then
+    /// unchanged.
     ///
     /// ```
     /// let mut page = String::new(alloc);

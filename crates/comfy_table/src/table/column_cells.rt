@@ -38,8 +38,8 @@ impl<'a> Model for ColumnCellIter<'a> {
 }
 
 impl Table {
-    /// The cells of the column at a position, counted from 0, with an item for each row. The item
-    /// is `None` if the row has no cell at this position. The header is left out.
+    /// The cells of the column at position `position`, counted from 0, with an item for each row.
+    /// The item is `None` if the row has no cell at this position. The header is left out.
     pub fn column_cells_iter(&self, position: usize) -> ColumnCellIter<'_>
         ensures { result ≡ cells_by_row self.now position }
     {
@@ -50,9 +50,9 @@ impl Table {
         }
     }
 
-    /// The cells of the column at a position, counted from 0: first an item for the header, and
-    /// then one for each row. An item is `None` if there is no header, or if the header or the row
-    /// has no cell at this position.
+    /// The cells of the column at position `position`, counted from 0: first an item for the
+    /// header, and then one for each row. An item is `None` if there is no header, or if the header
+    /// or the row has no cell at this position.
     pub fn column_cells_with_header_iter(&self, position: usize) -> ColumnCellIter<'_>
         ensures { result ≡ cells_with_header self.now position }
     {

@@ -10,9 +10,9 @@ use comfy_parts::{Column, Items, Result, Row};
 use std::mem;
 
 impl Table {
-    /// Sets the constraints of the columns: the first item for the first column, and so on. Items
-    /// after the last column are ignored, so add the header and the rows first. Columns after the
-    /// last item keep their constraints.
+    /// Sets the constraints of the columns: the first item of `constraints` is for the first
+    /// column, and so on. Items after the last column are ignored, so add the header and the rows
+    /// first. Columns after the last item keep their constraints.
     pub fn set_constraints<I>(&mut self, constraints: I) -> &mut Self
     where
         I: Items<Item = ColumnConstraint>,
@@ -41,9 +41,9 @@ impl Table {
         grow_columns(&mut self.columns, count)
     }
 
-    /// Calls `discover_columns`, and then returns the number of columns. After `OutOfMemory` the
-    /// table is unchanged. If each cell of every row has a column already, the call takes no memory
-    /// and succeeds.
+    /// Calls `discover_columns`, and then returns the number of columns, including hidden columns.
+    /// After `OutOfMemory` the table is unchanged. If each cell of every row has a column already,
+    /// the call takes no memory and succeeds.
     pub fn column_count(&mut self) -> Result<usize>
         ensures value { IfOk result (λ count. count ≡ length (discovered self.old).columns) }
         ensures ok { OnOk result (self.new ≡ discovered self.old) }

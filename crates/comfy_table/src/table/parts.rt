@@ -49,7 +49,7 @@ pub struct TableParts {
 }
 
 impl Table {
-    /// The table that consists of these parts. The call takes no memory.
+    /// The table that consists of `parts`. The call takes no memory.
     pub fn from_parts(parts: TableParts) -> Table
         ensures { result ≡ table_of_parts parts }
     {

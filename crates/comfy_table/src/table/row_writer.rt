@@ -55,10 +55,11 @@ impl<'a> RowWriter<'a> {
         self.writer.infos()
     }
 
-    /// Appends the lines of these rows, each followed by a line feed. If `extent.is_first` is true,
-    /// the rows begin with the first row of the table: the top border and the header come above it.
-    /// Above each other row comes the row separator. If `extent.is_last` is true, the bottom border
-    /// comes below the last of the rows. After `OutOfMemory` the text is unchanged.
+    /// Appends the lines of `rows`, each followed by a line feed. If `extent.is_first` is true, the
+    /// top border and the header come before the first of these rows, and the row separator before
+    /// each other row. If `extent.is_first` is false, the row separator comes before each row. If
+    /// `extent.is_last` is true, the bottom border comes last. The only error is `OutOfMemory`;
+    /// `text` is then unchanged.
     pub fn push_rows(&mut self, text: &mut String, rows: &[Row], extent: PartEnds) -> Result<()>
         ensures ok { OnOk result (string_bytes text.new
             ≡ string_bytes text.old ++ terminated_text_of
@@ -75,9 +76,10 @@ impl<'a> RowWriter<'a> {
         drawn
     }
 
-    /// Appends the lines of a row that consists of these cells, as `push_rows` does for one row. At
-    /// most `limit` lines of the row are drawn. A limit of 0 counts as 1, and with `None` all lines
-    /// are drawn. After `OutOfMemory` the text is unchanged.
+    /// Appends the lines of a row that consists of `cells`, as `push_rows` does for one row.
+    /// `extent` has the same effect as there. At most `limit` lines of the row are drawn. A limit
+    /// of 0 counts as 1, and with `None` all lines are drawn. The only error is `OutOfMemory`;
+    /// `text` is then unchanged.
     #[inline(always)]
     pub fn push_cells(
         &mut self,
@@ -101,9 +103,9 @@ impl<'a> RowWriter<'a> {
         drawn
     }
 
-    /// The number of lines of a row that consists of these cells, if at most `limit` lines of it
-    /// are drawn. A limit of 0 counts as 1, and with `None` all lines are drawn. In a table without
-    /// visible columns a row has no lines. The only error is `OutOfMemory`.
+    /// The number of lines, without borders, of a row that consists of `cells`, if at most `limit`
+    /// lines of the row are drawn. A limit of 0 counts as 1, and with `None` all lines are drawn.
+    /// In a table without visible columns a row has no lines. The only error is `OutOfMemory`.
     pub fn height_of_cells(&self, cells: &[RowCell<'_>], limit: Option<usize>) -> Result<usize>
         ensures { IfOk result (λ height. height ≡ row_height self.now.table self.now.infos
             (row_with (map cell_of cells.now) limit)) }

@@ -16,8 +16,8 @@ use std::alloc::Global;
 use std::vec;
 
 impl Table {
-    /// A table with this header and these rows, in the style `ASCII_FULL`. The number of its
-    /// columns is the greatest number of cells in the header or a row. The only error is
+    /// A table with the header `header` and the rows `rows`, in the style `ASCII_FULL`. The number
+    /// of columns is the greatest number of cells in the header or in a row. The only error is
     /// `OutOfMemory`.
     ///
     /// ```
@@ -38,10 +38,10 @@ impl Table {
         Ok(table)
     }
 
-    /// Appends rows in their order, each as `add_row` does. Returns the table for further calls. If
-    /// memory runs out at a row, the error is `OutOfMemory`, and the table keeps the rows that were
-    /// added before. That row and the rows after it are dropped. To learn at which row memory ran
-    /// out, call `try_add_rows` instead.
+    /// Appends `rows` in their order, each as `add_row` does. Returns the table for further calls.
+    /// If memory runs out at a row, the error is `OutOfMemory`. The table then keeps the rows that
+    /// were added before, and that row and the rows after it are dropped. To learn at which row
+    /// memory ran out, call `try_add_rows` instead.
     ///
     /// ```
     /// table.add_rows([["17", "dock 3"], ["18", "rented"]])?;
@@ -60,10 +60,10 @@ impl Table {
         into_reference(self.with_rows_added(rows))
     }
 
-    /// Calls the predicate once, with the number of rows in the table and the new row. If the
-    /// predicate returns true, `add_row_if` appends the row as `add_row` does. Otherwise nothing
-    /// changes, no memory is taken, and the row is dropped. Returns the table for further calls.
-    /// After `OutOfMemory` the table is unchanged. To use this fact in a proof of your own, call
+    /// Calls `predicate` once, with the number of rows in the table and the new row. If `predicate`
+    /// returns true, `add_row_if` appends the row as `add_row` does. Otherwise nothing changes, no
+    /// memory is taken, and the row is dropped. Returns the table for further calls. After
+    /// `OutOfMemory` the table is unchanged. To use this fact in a proof of your own, call
     /// `try_add_row_if` instead.
     pub fn add_row_if<P, T>(&mut self, predicate: P, row: T) -> Result<&mut Self>
     where
@@ -81,11 +81,11 @@ impl Table {
         into_reference(self.with_row_added_if(predicate, row))
     }
 
-    /// Calls the predicate once, with the number of rows in the table and all new rows. If the
-    /// predicate returns true, `add_rows_if` appends the new rows as `add_rows` does. Otherwise
+    /// Calls `predicate` once, with the number of rows in the table and all new rows. If
+    /// `predicate` returns true, `add_rows_if` appends the new rows as `add_rows` does. Otherwise
     /// nothing changes, no memory is taken, and the new rows are dropped. Returns the table for
-    /// further calls. If memory runs out at a row, the error is `OutOfMemory`, and the table keeps
-    /// the rows that were added before.
+    /// further calls. If memory runs out at a row, the error is `OutOfMemory`. The table then keeps
+    /// the rows that were added before, and that row and the rows after it are dropped.
     pub fn add_rows_if<P, I>(&mut self, predicate: P, rows: I) -> Result<&mut Self>
     where
         P: Fn(usize, &I) -> bool + Drop,
@@ -107,11 +107,11 @@ impl Table {
         into_reference(self.with_rows_added_if(predicate, rows))
     }
 
-    /// Appends the rows that an iterator over a `Vec` still has, in their order, each as `add_row`
-    /// does. If memory runs out at a row, the error is `OutOfMemory`. The table then keeps the rows
-    /// that were added before, and the columns that were appended for them. The row at which memory
-    /// ran out is dropped, and the iterator still has the rows after it. A proof of your own can
-    /// use these facts.
+    /// Appends the rows that `rows`, an iterator over a `Vec`, still has, in their order, each as
+    /// `add_row` does. If memory runs out at a row, the error is `OutOfMemory`. The table then
+    /// keeps the rows that were added before, and the columns that were appended for them. The row
+    /// at which memory ran out is dropped, and the iterator still has the rows after it. A proof of
+    /// your own can use these facts.
     ///
     /// ```
     /// let mut rows = vec![in alloc; ["17", "dock 3"], ["18", "rented"]]?.into_iter();
@@ -127,11 +127,12 @@ impl Table {
         self.push_rows(rows)
     }
 
-    /// Calls the predicate once, with the number of rows in the table and the new row. If the
-    /// predicate returns true, `try_add_row_if` appends the row as `try_add_row` does, and
-    /// otherwise it drops the row. `OutOfMemory` is possible only if the predicate returned true.
-    /// After this error the table is unchanged. Unlike after `add_row_if`, a proof of your own can
-    /// use this fact.
+    /// Calls `predicate` once, with the number of rows in the table and the new row. If `predicate`
+    /// returns true, `try_add_row_if` appends the row as `try_add_row` does. If `predicate` returns
+    /// false, the table is unchanged and the row is dropped. `OutOfMemory` is possible only if
+    /// `predicate` returned true. After this error the table is unchanged and the row is dropped,
+    /// as with `add_row_if`. Only the contract of `try_add_row_if` gives this fact to a proof of
+    /// your own.
     pub fn try_add_row_if<P, T>(&mut self, predicate: P, row: T) -> Result<()>
     where
         P: Fn(usize, &T) -> bool + Drop,

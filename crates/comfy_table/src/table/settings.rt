@@ -64,9 +64,9 @@ impl Table {
         into_reference(self.with_indicator_set(indicator))
     }
 
-    /// Sets the truncation indicator, as `set_truncation_indicator` does. After `OutOfMemory` the
-    /// table is unchanged. Unlike after `set_truncation_indicator`, a proof of your own can use
-    /// this fact.
+    /// Sets the truncation indicator: the text that follows a line that `Row::max_height` cuts.
+    /// After `OutOfMemory` the table is unchanged, as with `set_truncation_indicator`. Only the
+    /// contract of `try_set_truncation_indicator` gives this fact to a proof of your own.
     pub fn try_set_truncation_indicator(&mut self, indicator: &str) -> Result<()>
         ensures ok { OnOk result (self.new ≡ record self.old { indicator = indicator.now }) }
         ensures err { OnErr result (self.new ≡ self.old) }
@@ -89,9 +89,9 @@ impl Table {
         Ok(TableReference { table: self })
     }
 
-    /// Sets the rule by which the widths of the columns are found. A new table has `Disabled`. The
-    /// dynamic arrangements keep to the table's width, and act as `Disabled` if this width isn't
-    /// known.
+    /// Sets the arrangement: the rule by which the widths of the columns are found. A new table has
+    /// `Disabled`. `Dynamic` and `DynamicFullWidth` wrap texts so that the table keeps to its
+    /// width, and act as `Disabled` if no width is known.
     pub fn set_content_arrangement(&mut self, arrangement: ContentArrangement) -> &mut Self
         ensures same_reference { result.ghost_name ≡ self.entry.ghost_name }
         ensures value { result.now ≡ record self.old { arrangement = arrangement } }
@@ -107,8 +107,11 @@ impl Table {
         self.arrangement
     }
 
-    /// Sets the width of the table in terminal columns. The dynamic arrangements keep to this
-    /// width. A percentage in a constraint is of this width less the borders.
+    /// Sets the width of the table in terminal columns. `Dynamic` wraps texts so that the table
+    /// isn't wider, and `DynamicFullWidth` also fills this width. The table may be wider if
+    /// borders, paddings and constraints leave too little room for its columns, or if a character
+    /// is wider than its column. `Disabled` uses this width only for constraints in percent, which
+    /// are percentages of this width less the borders.
     ///
     /// ```
     /// table

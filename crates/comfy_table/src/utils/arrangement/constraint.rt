@@ -7,10 +7,10 @@ use crate::table::Table;
 use crate::utils::arrangement::helper::count_border_columns;
 use comfy_parts::style::{ColumnConstraint, Width};
 
-/// The lower boundary that a constraint sets for the width of a column with its paddings, in
-/// terminal columns. `None` if the constraint has no lower boundary, or if the boundary is a
-/// percentage and the table's width isn't known. `shown_columns` is the number of columns that
-/// aren't hidden; `absolute_value_from_width` uses it for a percentage.
+/// The lower boundary that `constraint` sets for the width of a column with its paddings, in
+/// terminal columns. `None` if `constraint` is `None` or has no lower boundary, or if the boundary
+/// is a percentage and the table's width isn't known. `shown_columns` is the number of columns that
+/// aren't hidden; a percentage depends on their borders (`absolute_value_from_width`).
 pub fn min(
     table: &Table,
     constraint: &Option<ColumnConstraint>,
@@ -27,10 +27,10 @@ pub fn min(
     }
 }
 
-/// The upper boundary that a constraint sets for the width of a column with its paddings, in
-/// terminal columns. `None` if the constraint has no upper boundary, or if the boundary is a
-/// percentage and the table's width isn't known. `shown_columns` is the number of columns that
-/// aren't hidden; `absolute_value_from_width` uses it for a percentage.
+/// The upper boundary that `constraint` sets for the width of a column with its paddings, in
+/// terminal columns. `None` if `constraint` is `None` or has no upper boundary, or if the boundary
+/// is a percentage and the table's width isn't known. `shown_columns` is the number of columns that
+/// aren't hidden; a percentage depends on their borders (`absolute_value_from_width`).
 pub fn max(
     table: &Table,
     constraint: &Option<ColumnConstraint>,
@@ -47,9 +47,9 @@ pub fn max(
     }
 }
 
-/// The number of terminal columns of a `Width`. A percentage counts as at most 100. It is taken of
-/// the table's width less the borders of `shown_columns` columns, and rounded down. The result is
-/// `None` for a percentage if the table's width isn't known.
+/// The number of terminal columns that `width` means. A percentage is of the table's width less the
+/// borders of `shown_columns` columns. The result is rounded down, and a percentage above 100
+/// counts as 100. The result is `None` for a percentage if the table's width isn't known.
 pub fn absolute_value_from_width(table: &Table, width: &Width, shown_columns: usize) -> Option<u16>
     ensures { result ≡ resolved_width table.now shown_columns width.now }
 {

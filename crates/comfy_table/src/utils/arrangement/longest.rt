@@ -13,10 +13,10 @@ use crate::utils::formatting::row_cell::{LinesCell, RowCell, TextCell};
 use comfy_parts::content_split::{ColumnDisplayInfo, measure_text_width, wrapped_lines};
 use comfy_parts::{Cell, Result};
 
-/// The width of the widest line in the column at a position, in terminal columns, if the header's
-/// cell and all other cells are wrapped at `content_width`. Greatest heights of rows aren't
-/// applied. A width of 0 counts as 1, and a position without a column gives 0. The call takes no
-/// memory and always succeeds.
+/// The width of the widest line in the column at position `position`, in terminal columns, if the
+/// header's cell and all other cells are wrapped at `content_width`. Greatest heights of rows
+/// aren't applied. A width of 0 counts as 1, and a position without a column gives 0. The call
+/// takes no memory and always succeeds.
 pub fn longest_line(table: &Table, position: usize, content_width: u16) -> Result<usize>
     ensures value { IfOk result (λ columns. columns
         ≡ longest_line_at table.now position content_width) }
@@ -31,9 +31,10 @@ pub fn longest_line(table: &Table, position: usize, content_width: u16) -> Resul
     }
 }
 
-/// The width of the widest line in the column at a position, in terminal columns. Each cell is
-/// wrapped with the delimiter and the content width of `info`. The function stops at the first cell
-/// with a line wider than `limit`, so a result above `limit` may be too small.
+/// The width of the widest line in the column at position `position`, in terminal columns. Each
+/// cell is wrapped with the delimiter and the content width of `info`. The function stops at the
+/// first cell with a line wider than `limit`, so a result above `limit` may be less than the width
+/// of the widest line. The result is 0 if the column has no cells.
 pub fn column_longest_line(
     table: &Table,
     position: usize,

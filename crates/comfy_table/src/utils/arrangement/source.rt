@@ -17,20 +17,20 @@ pub trait TableSource: Drop {
     /// The table with all of its rows.
     ghost whole: { Self → TableValue };
 
-    /// A `Table` that has the settings, the columns and the header. Rows of this `Table` are
-    /// ignored.
+    /// A `Table` that has the settings, the columns and the header of the whole table. Rows of this
+    /// `Table` are ignored.
     fn table(&self) -> &Table
         ensures { with_other_rows (whole self.now).rows result.now ≡ whole self.now };
 
-    /// The content width of the column at a position: the width of the widest text line in its
-    /// cells and header, in terminal columns. Each cell counts at least 1 and at most 65535, and a
-    /// column without cells gives 0. The only error is `OutOfMemory`.
+    /// The content width of the column at position `position`, counted from 0: the width of the
+    /// widest text line in its cells and header, in terminal columns. Each cell counts at least 1
+    /// and at most 65535, and a column without cells gives 0. The only error is `OutOfMemory`.
     fn content_width(&self, position: usize) -> Result<u16>
         ensures { IfOk result (λ width. width ≡ column_content_width (whole self.now) position) };
 
-    /// The width of the widest line in the column at a position, in terminal columns. Each cell is
-    /// wrapped with the delimiter and the content width of `info`. If this width is above `limit`,
-    /// the result may be less than this width, but is above `limit` too. The only error is
+    /// The width of the widest line in the column at position `position`, in terminal columns. Each
+    /// cell is wrapped with the delimiter and the content width of `info`. If this width is above
+    /// `limit`, the result may be less than this width, but is above `limit` too. The only error is
     /// `OutOfMemory`.
     fn longest_line(&self, position: usize, info: &ColumnDisplayInfo, limit: usize) -> Result<usize>
         ensures at_most { IfOk result (λ longest. longest

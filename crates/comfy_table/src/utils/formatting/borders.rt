@@ -55,7 +55,7 @@ pub(crate) fn optional_frame_line(
 }
 
 /// Appends the frame line over these columns with the characters of `line`, even if `line` has no
-/// character. The only error is `OutOfMemory`.
+/// character. The only error is `OutOfMemory`; `text` may then have a part of the frame line.
 pub(crate) fn push_frame_line(
     text: &mut String,
     table: &Table,

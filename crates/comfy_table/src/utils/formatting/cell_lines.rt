@@ -65,9 +65,9 @@ impl<'a> Line<'a> {
         }
     }
 
-    /// The width of the line in terminal columns, and the two texts that are written for the line,
-    /// one directly after the other. The second text may be empty: it is the indicator of a line
-    /// that is cut, or spaces.
+    /// The width of the line in terminal columns, and the two texts that are written for the line:
+    /// the first text, and directly after it the second. The second text may be empty: it is the
+    /// indicator of a line that is cut, or spaces.
     #[inline(always)]
     pub fn parts(&self) -> (usize, &str, &str)
         ensures { record {
@@ -116,7 +116,7 @@ impl<'a> CellLines<'a> {
         }
     }
 
-    /// The line at a position, counted from 0; `None` after the last line.
+    /// The line at position `position`, counted from 0; `None` after the last line.
     #[inline(always)]
     pub fn get(&self, position: usize) -> Option<&Line<'a>>
         ensures { option_map (λ line. line.now) result
@@ -130,8 +130,9 @@ impl<'a> CellLines<'a> {
 }
 
 /// The lines of a cell in a row of which at most `limit` lines are drawn, or all lines if `limit`
-/// is `None`. No list is needed if `only_line` returns the cell's line. Otherwise a list of `spare`
-/// is used, or a new list if `spare` is empty. The only error is `OutOfMemory`.
+/// is `None`. The cell is in the column of `info`. If `only_line` returns the cell's only line, no
+/// list is used. Otherwise the lines are in a list that is taken from `spare`, or in a new list if
+/// `spare` is empty. The only error is `OutOfMemory`.
 pub fn row_cell_lines<'a>(
     table: &'a Table,
     limit: Option<usize>,
@@ -165,10 +166,10 @@ fn empty_list<'a>(spare: &mut Vec<Vec<Line<'a>>>) -> Result<Vec<Line<'a>>>
     Ok(list)
 }
 
-/// The only line of a cell, if its only text line fits the column and is written unchanged. The
-/// line is returned as its width in terminal columns, and two texts that are written one directly
-/// after the other. The result is `None` for any other cell, and for a text with more than 64
-/// spaces after it.
+/// The only line of a cell, if the cell has one text line, which fits the column of `info` and is
+/// written unchanged. The tuple has the width of the line in terminal columns, and the two texts
+/// that are written for the line, one directly after the other. The result is `None` for any other
+/// cell, and for a text with more than 64 spaces after it.
 #[inline(always)]
 pub fn only_line<'a>(
     table: &Table,

@@ -44,8 +44,8 @@ pub fn format_row(
 }
 
 /// The lines of the header, if there is one, and then the lines of each row. Header and rows have
-/// one item each: the list of lines that `format_row` returns, each line as its pieces. The only
-/// error is `OutOfMemory`.
+/// one item each: the list of lines that `format_row` returns for them and `display_infos`, each
+/// line as its pieces. The only error is `OutOfMemory`.
 pub fn format_content(
     table: &Table,
     display_infos: &[ColumnDisplayInfo],

@@ -71,8 +71,8 @@ impl<'a> Model for Writer<'a> {
 }
 
 impl<'a> Writer<'a> {
-    /// A writer of a table with this frame, whose columns have these widths and settings. The only
-    /// error is `OutOfMemory`.
+    /// A writer of `table`, with the frame lines and gaps in `frame`. `infos` has the width and
+    /// settings of each column, hidden ones included. The only error is `OutOfMemory`.
     pub fn new(
         table: &'a Table,
         infos: &'a [ColumnDisplayInfo],
@@ -102,8 +102,8 @@ impl<'a> Writer<'a> {
         self.infos
     }
 
-    /// Appends the lines of these rows, and the frame lines and the header that `extent` requires,
-    /// to an output. After `OutOfMemory` the output still begins with its old content.
+    /// Appends the lines of `rows` to `output`, with the frame lines and the header that `extent`
+    /// requires. After `OutOfMemory`, `output` still begins with its old content.
     pub fn draw<'r, O: Output>(
         &mut self,
         rows: &'r [Row],
@@ -122,9 +122,10 @@ impl<'a> Writer<'a> {
         self.write_below(extent.is_last, output)
     }
 
-    /// Appends at most `limit` lines of a row that consists of these cells, or all its lines with
-    /// `None`. The frame lines and the header that `extent` requires are appended too. After
-    /// `OutOfMemory` the output still begins with its old content.
+    /// Appends the lines of a row that consists of `cells` to `output`, with the frame lines and
+    /// the header that `extent` requires. At most `limit` lines of the row are drawn. A limit of 0
+    /// counts as 1, and with `None` all lines are drawn. After `OutOfMemory` the output still
+    /// begins with its old content.
     #[inline(always)]
     pub fn draw_cells<'r, O: Output>(
         &mut self,
@@ -145,9 +146,9 @@ impl<'a> Writer<'a> {
         self.write_below(extent.is_last, output)
     }
 
-    /// The number of lines of a row that consists of these cells, if at most `limit` lines of it
-    /// are drawn, or all lines with `None`. Without shown columns the row has no lines. The only
-    /// error is `OutOfMemory`.
+    /// The number of lines, without borders, of a row that consists of `cells`, if at most `limit`
+    /// lines of the row are drawn. A limit of 0 counts as 1, and with `None` all lines are drawn.
+    /// Without shown columns the row has no lines. The only error is `OutOfMemory`.
     pub fn height_of_cells(&self, cells: &[RowCell<'_>], limit: Option<usize>) -> Result<usize>
         ensures { IfOk result (λ height. height ≡ row_height self.now.table self.now.infos
             (row_with (map cell_of cells.now) limit)) }

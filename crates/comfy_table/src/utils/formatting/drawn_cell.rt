@@ -51,8 +51,8 @@ impl<'a, 'r> DrawnCell<'a, 'r> {
         }
     }
 
-    /// The piece that the cell has in a line of its row: its text with paddings, or only spaces
-    /// after the cell's last line. Lines are counted from 0.
+    /// The piece (`Piece`) of the cell in the line number `line` of its row, counted from 0. After
+    /// the cell's last line the piece has only spaces.
     #[inline(always)]
     pub fn piece_at(&self, line: usize) -> Piece<'_>
         ensures { result ≡ piece_at line self.now }
@@ -69,7 +69,8 @@ impl<'a, 'r> DrawnCell<'a, 'r> {
 }
 
 /// Takes a cell that has been drawn, and moves the list of its lines to `spare` for later cells. A
-/// list with room for more than `KEPT_LINES` lines is dropped. The only error is `OutOfMemory`.
+/// list with room for more than 256 lines is dropped. A cell without a list leaves `spare`
+/// unchanged. The only error is `OutOfMemory`.
 #[inline(always)]
 pub fn take_list<'r>(cell: DrawnCell<'_, 'r>, spare: &mut Vec<Vec<Line<'r>>>) -> Result<()> {
     let Some((_, lines)) = cell.cell else {
@@ -107,7 +108,7 @@ pub fn drawn_cells<'a, 'r>(
     Ok(cells)
 }
 
-/// The height of a row in lines: the greatest height of these cells; 0 without cells.
+/// The height of a row in lines: the greatest height of `cells`, or 0 without cells.
 pub fn greatest_height(cells: &[DrawnCell]) -> usize
     ensures { result ≡ greatest_height cells.now }
 {
@@ -139,9 +140,10 @@ pub fn row_height(row: RowSource<'_>, columns: &[ShownColumn<'_>], table: &Table
     Ok(height)
 }
 
-/// The only piece of a row's cell in a column, if `only_line` returns the cell's only line. If the
-/// row has no cell in the column, the only piece is blank. For any other cell the result is `None`.
-/// Most cells are drawn this way, without a list and without a `DrawnCell`.
+/// The only piece (`Piece`) of the row's cell in `column`, if `only_line` returns the cell's only
+/// line. If the row has no cell in this column, the piece is blank. For any other cell the result
+/// is `None`. `styles` says where colours and attributes are written. Most cells are drawn this
+/// way, without a list and without a `DrawnCell`.
 #[inline(always)]
 pub fn only_piece<'r>(
     row: RowSource<'r>,
@@ -163,8 +165,10 @@ pub fn only_piece<'r>(
     Some(Piece::new(styles, cell, info, columns, text, end))
 }
 
-/// The cell of a row in a shown column, with the lines that are drawn of the cell. If these lines
-/// need a list, a list of `spare` is used, if there is one. The only error is `OutOfMemory`.
+/// The cell of `row` in a shown column, with the lines that are drawn of the cell. If the row has
+/// no cell there, the result is a blank cell of one line. If the lines need a list, it is taken
+/// from `spare`, or is a new list if `spare` is empty. `styles` says where colours and attributes
+/// are written. The only error is `OutOfMemory`.
 pub fn drawn_cell<'a, 'r>(
     row: RowSource<'r>,
     column: &ShownColumn<'a>,

@@ -38,8 +38,8 @@ impl Model for FrameLines {
 }
 
 impl FrameLines {
-    /// The frame lines and gaps of a table whose columns have these widths and settings. The only
-    /// error is `OutOfMemory`.
+    /// The frame lines and gaps of `table`. `infos` has the width and settings of each column,
+    /// hidden ones included. The only error is `OutOfMemory`.
     pub fn new(table: &Table, infos: &[ColumnDisplayInfo]) -> Result<FrameLines>
         ensures { IfOk result (λ frame. frame
             ≡ frame_of table.now.style (outer_widths infos.now)) }

@@ -9,7 +9,7 @@ use comfy_parts::Result;
 use std::alloc::Global;
 use std::marker::Model;
 
-/// The part of a line between two texts: spaces, a border, and spaces.
+/// The part of a line before, between or after the texts of cells: spaces, a border, and spaces.
 #[derive(Drop)]
 pub struct Gap {
     // true if the border is drawn, and its character
@@ -56,7 +56,7 @@ impl Gap {
     }
 
     /// Appends `before` spaces, the border of the gap, and `after` spaces. The only error is
-    /// `OutOfMemory`; `text` may then have a part of these.
+    /// `OutOfMemory`; `text` may then have a part of the gap.
     #[inline(always)]
     pub fn push(&self, text: &mut String, before: usize, after: usize) -> Result<()>
         ensures { OnOk result (string_bytes text.new
@@ -100,7 +100,7 @@ pub fn push_spaces(text: &mut String, count: usize) -> Result<()>
     Ok(())
 }
 
-/// A text of `count` spaces; `None` for more than 64.
+/// A text of `count` spaces; `None` if `count` is above 64.
 pub fn few_spaces(count: usize) -> Option<&'static str>
     ensures { IfSome result (λ few. few.now ≡ spaces count) }
 {

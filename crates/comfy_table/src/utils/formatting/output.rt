@@ -21,7 +21,8 @@ pub trait Output {
     // the elements that a line adds
     ghost kept_of: { Text → List Kept };
 
-    /// Appends a drawn line. After `OutOfMemory` the output still begins with its old elements.
+    /// Appends a drawn line. The only error is `OutOfMemory`. The output then still begins with its
+    /// old content, after which it may have a part of the line.
     fn push_line(&mut self, line: &str) -> Result<()>
         ensures ok { OnOk result (kept self.new
             ≡ with_lines kept_of (line.now ∷ []) (kept self.old)) }

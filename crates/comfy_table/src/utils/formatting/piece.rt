@@ -76,8 +76,9 @@ impl<'a> Model for Piece<'a> {
 }
 
 impl<'a> Piece<'a> {
-    /// The piece of a line of a cell. The line is written as the texts `text` and `end`, one
-    /// directly after the other. It is aligned as a line that takes `columns` terminal columns.
+    /// The piece of a line of `cell` in the column of `info`. The line is written as the texts
+    /// `text` and `end`, one directly after the other, and is aligned as a line that takes
+    /// `columns` terminal columns. `styles` says where colours and attributes are written.
     #[inline(always)]
     pub fn new(
         styles: Styles,
@@ -182,9 +183,10 @@ fn push_styled(
     push_style_end(line, style)
 }
 
-/// The number of spaces before and after a line of `width` terminal columns: the paddings, and the
-/// terminal columns that the line leaves free. The alignment is that of the cell (`own`), or else
-/// that of the column, or else left.
+/// The numbers of spaces before and after a line of `width` terminal columns, in this order. They
+/// are the paddings and the terminal columns that the line leaves free. A line that is wider than
+/// the column leaves none free. The alignment is that of the cell (`own`), or else that of the
+/// column, or else left.
 pub fn spaces_around(
     own: Option<CellAlignment>,
     info: &ColumnDisplayInfo,

@@ -54,8 +54,8 @@ impl<'a> Model for TextCell<'a> {
 impl<'a> TextCell<'a> {
     /// The cell of a text of printable ASCII with `after` spaces after the text. The result is
     /// `None` if the text has another character, or if the length of text and spaces is above
-    /// `usize::MAX`. Without `alignment` the alignment of the column applies. Without `style` no
-    /// colour and no attribute is set.
+    /// `usize::MAX`. If `alignment` is `None`, the alignment of the column applies. If `style` is
+    /// `None`, no colour and no attribute is set.
     #[inline(always)]
     pub fn of_printable(
         text: &'a str,
@@ -81,8 +81,8 @@ impl<'a> TextCell<'a> {
     }
 
     /// The cell of a text without spaces after it. The result is `None` if the text has a line feed
-    /// or ESC. Without `alignment` the alignment of the column applies. Without `style` no colour
-    /// and no attribute is set.
+    /// or ESC. If `alignment` is `None`, the alignment of the column applies. If `style` is `None`,
+    /// no colour and no attribute is set.
     pub fn of_line(
         text: &'a str,
         alignment: Option<CellAlignment>,
@@ -151,8 +151,8 @@ impl<'a> TextCell<'a> {
     }
 }
 
-/// A borrowed text of several lines that is drawn as a cell. The text has no escape sequence, and
-/// the cell takes no memory.
+/// A borrowed text of several lines that is drawn as a cell. The text has no ESC, so it has no
+/// escape sequence, and the cell takes no memory.
 #[derive(Drop)]
 pub struct LinesCell<'a> {
     text: &'a str,
@@ -181,8 +181,8 @@ impl<'a> Model for LinesCell<'a> {
 
 impl<'a> LinesCell<'a> {
     /// The cell of a text, whose text lines are separated by its line feeds. The result is `None`
-    /// if the text has ESC. Without `alignment` the alignment of the column applies. Without
-    /// `style` no colour and no attribute is set.
+    /// if the text has ESC. If `alignment` is `None`, the alignment of the column applies. If
+    /// `style` is `None`, no colour and no attribute is set.
     pub fn of_lines(
         text: &'a str,
         alignment: Option<CellAlignment>,
@@ -320,7 +320,8 @@ impl<'r> CellSource<'r> {
     }
 }
 
-/// A row that is drawn: a `Row`, or some cells and their greatest height.
+/// A row that is drawn: a `Row`, or some cells and the greatest number of lines that are drawn of
+/// each cell.
 #[derive(Clone, Copy)]
 pub(crate) enum RowSource<'r> {
     Whole(&'r Row),
@@ -343,7 +344,8 @@ impl<'r> RowSource<'r> {
         }
     }
 
-    /// The greatest height of the row in lines, at least 1; `None` if it isn't set.
+    /// The greatest number of lines that are drawn of each cell of the row, at least 1; `None` if
+    /// all lines are drawn.
     #[inline(always)]
     pub fn height_limit(self) -> Option<usize>
         ensures limit { result ≡ (row_in self.entry).max_height }

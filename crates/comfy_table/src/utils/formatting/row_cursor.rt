@@ -16,9 +16,9 @@ use comfy_parts::Result;
 use std::alloc::Global;
 use std::marker::Model;
 
-/// The row that is being drawn. Its first line is drawn while its cells are measured. Then only the
-/// cells that may have further lines are stored: most rows have no such cell. One cursor draws many
-/// rows, and reuses its memory.
+/// A cursor at the row that is being drawn. The row's first line is drawn while its cells are
+/// measured. Then only the cells that may have further lines are stored: most rows have no such
+/// cell. One cursor draws many rows, and reuses its memory.
 #[derive(Drop)]
 pub struct RowCursor<'a, 'r> {
     // the cells from the first cell on that may have more than one line
@@ -47,9 +47,10 @@ impl<'a, 'r> RowCursor<'a, 'r> {
         }
     }
 
-    /// Moves to a row, appends the row's first line to `text`, and returns the row's height in
-    /// lines. Without columns the height is 0, and the appended text isn't a line of the row. The
-    /// only error is `OutOfMemory`; `text` may then have a part of the line.
+    /// Moves to `row`, appends the row's first line to `text`, and returns the row's height in
+    /// lines. `gaps` are the gaps in the lines of this row. Without columns the height is 0, and
+    /// the appended text isn't a line of the row. The only error is `OutOfMemory`; `text` may then
+    /// have a part of the line.
     #[inline(always)]
     pub fn push_first_line(
         &mut self,
@@ -103,9 +104,10 @@ impl<'a, 'r> RowCursor<'a, 'r> {
         Ok(())
     }
 
-    /// Appends one of the lines after the row's first line to `text`. `columns` are those with
-    /// which `push_first_line` was called. Lines are counted from 0. The only error is
-    /// `OutOfMemory`; `text` may then have a part of the line.
+    /// Appends the line number `line` of the row to `text`. The row's first line has number 0, so
+    /// `line` is at least 1 and less than the row's height. `gaps` and `columns` are those with
+    /// which `push_first_line` was called. The only error is `OutOfMemory`; `text` may then have a
+    /// part of the line.
     #[inline(never)]
     pub fn push_further_line(
         &self,

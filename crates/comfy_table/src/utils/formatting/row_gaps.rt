@@ -28,8 +28,8 @@ impl Model for RowGaps {
 }
 
 impl RowGaps {
-    /// The gaps of the header's lines, or of the lines of rows: `line` has their characters. The
-    /// only error is `OutOfMemory`.
+    /// The gaps in the lines of the header, or in the lines of rows. `line` has the characters of
+    /// the borders in these gaps. The only error is `OutOfMemory`.
     pub fn new(table: &Table, line: &ContentLineStyle) -> Result<RowGaps>
         ensures { IfOk result (λ gaps. gaps ≡ row_gaps table.now.style line.now) }
     {
@@ -57,7 +57,7 @@ impl RowGaps {
     }
 
     /// Appends the end of a line: `free` spaces and the right border. The only error is
-    /// `OutOfMemory`.
+    /// `OutOfMemory`; `text` may then have a part of this end.
     #[inline(always)]
     pub fn push_end(&self, text: &mut String, free: usize) -> Result<()>
         ensures { OnOk result (string_bytes text.new

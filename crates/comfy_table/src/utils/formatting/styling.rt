@@ -43,7 +43,8 @@ const ALL_ATTRIBUTES: [Attribute; 28] = [
 ];
 
 /// Appends the sequences before a styled text: background, foreground, attributes. Appends nothing
-/// if the style has neither a colour nor an attribute. The only error is `OutOfMemory`.
+/// if the style has neither a colour nor an attribute. The only error is `OutOfMemory`; `line` may
+/// then have a part of the sequences.
 pub(crate) fn push_style_begin(line: &mut String, style: &TextStyle<'_>) -> Result<()>
     ensures { OnOk result (string_bytes line.new
         ≡ string_bytes line.old ++ style_begin (styling style.now)) }
@@ -54,7 +55,8 @@ pub(crate) fn push_style_begin(line: &mut String, style: &TextStyle<'_>) -> Resu
 }
 
 /// Appends the sequences after a styled text, which end its style. Appends nothing if the style has
-/// neither a colour nor an attribute. The only error is `OutOfMemory`.
+/// neither a colour nor an attribute. The only error is `OutOfMemory`; `line` may then have a part
+/// of the sequences.
 pub(crate) fn push_style_end(line: &mut String, style: &TextStyle<'_>) -> Result<()>
     ensures { OnOk result (string_bytes line.new
         ≡ string_bytes line.old ++ style_end (styling style.now)) }
