@@ -1,6 +1,6 @@
 # Functions that build and install programs. Scripts read this file in the top folder of the project.
 
-# Builds a file of a crate's folder out/ if it isn't there yet, by a command in the crate's folder.
+# Builds a file of a crate's folder out/ by a command in the crate's folder, unless the file exists.
 build() {
   crate=$1 made=$2
   shift 2

@@ -32,7 +32,7 @@ for file in packages/python/pyproject.toml packages/rust/Cargo.toml; do
 done
 export SOURCE_DATE_EPOCH="${SOURCE_DATE_EPOCH:-$(date -ud "$(sed -n 's/^\.TH CSVTABLE 1 \([0-9-]*\) .*/\1/p' share/csvtable.1)" +%s)}"
 
-# True if the program is installed that makes a file. Otherwise the file is noted as left out.
+# True if the program that makes a file is installed. If it isn't, the file is noted as left out.
 left_out=
 has() {
   command -v "$1" > /dev/null || { left_out="$left_out $2 (no $1)" && return 1; }

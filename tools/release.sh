@@ -1,6 +1,6 @@
 #!/bin/sh
-# Runs the checks and tools of docs/TESTING.md that a release has to pass, and makes the packages. The last lines say which of them
-# passed, which failed, and which were skipped for which reason. Their outputs are in OUT/logs.
+# Runs the checks and tools of docs/TESTING.md that a release has to pass, and makes the packages. The last lines name the
+# checks that passed, those that failed, and those that were skipped, with the reasons. The outputs of the checks are in OUT/logs.
 #
 # usage: tools/release.sh OUT [ORIGINAL]
 # OUT is a folder for the packages and logs. ORIGINAL is a folder with the sources of comfy-table, as tools/try/drop_in.sh needs it.

@@ -9,8 +9,8 @@ class Library {
     this.called = new WebAssembly.Instance(module).exports;
   }
 
-  // The bytes of the instance's memory from an address on. After a call of the module, an earlier result can't be used any more,
-  // because the memory may have grown.
+  // The `length` bytes of the instance's memory that begin at an address. A result can't be used after a later call of the module,
+  // because the memory may then have grown.
   bytes(address, length) {
     return new Uint8Array(this.called.memory.buffer, Number(address), length);
   }
@@ -27,7 +27,8 @@ class Library {
     return address;
   }
 
-  // Calls comfy_csv_draw with an input and arguments. Returns its result, and the bytes of the drawing or of csvtable's message.
+  // Calls comfy_csv_draw with the bytes of an input and with arguments. Returns the result of comfy_csv_draw, and the bytes of the
+  // drawing or of csvtable's message. Throws RangeError if memory runs out.
   draw(input, words) {
     const joined = new TextEncoder().encode(words.map((word) => word + "\0").join(""));
     const given = [this.put(input), BigInt(input.length), this.put(joined), BigInt(joined.length)];

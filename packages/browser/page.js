@@ -7,8 +7,8 @@ const of = (id) => document.getElementById(id);
 const LINE_HEIGHT = 17, MOST_LINES = 1_000_000, SHOWN_LINES = 500;
 
 // OTHER matches a character that a browser's monospaced font may lack. Such characters come from other fonts, so the page makes
-// them as wide as the library counts them. RUN matches a run of them, whose width is set as a whole. To a run belongs the
-// character before it, because an accent needs its letter. Single spaces between such characters belong to it too.
+// them as wide as the library counts them. RUN matches a run of such characters, whose width is set as a whole. A run includes the
+// character before it, because an accent needs its letter. A run also includes single spaces between such characters.
 const OTHER = "[^ -~\\u00a0-\\u017f\\u2026\\u2500-\\u257f]";
 const RUN = new RegExp(`[!-~]?${OTHER}+(?: ${OTHER}+)*`, "gu");
 
@@ -18,8 +18,8 @@ const widths = new Map();
 
 // ---- drawing
 
-// Asks a worker for csvtable's drawing or message, so that the page stays usable in the meantime. A new call ends the call before
-// it.
+// Makes a worker find csvtable's drawing or message, so that the page stays usable in the meantime. The result has `isOld` if a
+// later call ended this call. A new call ends the call before it.
 function answer_of(blob, words) {
   if (stop) stop();
   worker ??= new Worker(URL.createObjectURL(new Blob([of("library").textContent, of("worker").textContent])));
@@ -56,7 +56,7 @@ function columns() {
   return Math.floor((of("view").clientWidth - 2 * of("lines").offsetLeft) / width);
 }
 
-// All arguments for csvtable. If an option is there twice, csvtable takes the last one.
+// All arguments for csvtable. They may have an option twice, because csvtable takes the last one.
 function argumentsNow() {
   const fits = of("fits").checked && !of("markdown").checked ? ["-w", String(Math.max(1, columns()))] : [];
   const words = wordsOf(of("words").value);
@@ -80,7 +80,7 @@ async function draw() {
 
 // ---- showing lines
 
-// Puts the lines that are in sight into the page, and some lines before and after them.
+// Puts the lines of the drawing that are in sight into the page, with some lines before and after these.
 function show() {
   const lines = Math.min(drawn.starts.length - 1, MOST_LINES);
   const seen = Math.floor(of("view").scrollTop / LINE_HEIGHT);
@@ -102,8 +102,8 @@ function showMore() {
   if (first < drawn.first || (last > drawn.last && drawn.last < lines)) show();
 }
 
-// Finds the width of each run in columns. For this it draws a table of one column with a run in each row, and counts the spaces
-// that the library puts after the run.
+// Finds the width of each run in terminal columns. The function draws a table of one column with a run in each row, and counts the
+// spaces that the library puts after the run.
 function measure(runs) {
   const unknown = [...new Set(runs)].filter((run) => !widths.has(run));
   if (!unknown.length) return;

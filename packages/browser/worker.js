@@ -1,4 +1,4 @@
-// The position of each line's first byte, and after these the end of the last line.
+// The position of the first byte of each line, and then the position after the last line.
 function startsOfLines(bytes) {
   const starts = [0];
   for (let at = bytes.indexOf(10); at >= 0; at = bytes.indexOf(10, at + 1)) starts.push(at + 1);

@@ -1,5 +1,5 @@
-//! Links the library, which is two files. If the environment variable COMFY_C is set, it names the folder of these files.
-//! Otherwise they are in the package's folder `lib`, which has a folder for each target.
+//! Links the library, which is two files. The environment variable COMFY_C names the folder of these files. If it isn't set, the
+//! files are in the package's folder `lib`, which has a folder for each target.
 
 use std::env;
 use std::path::Path;

@@ -40,8 +40,8 @@ def dead_links(page, folder):
 
 
 def in_words(text, path, whose="", before=""):
-    """The words of a page in place of a link: the link's text, the path, and whose file it is. Whether there are parentheses
-    depends on the text before it."""
+    """The words of a page in place of a link: the link's text, the path, and the words `whose` on the owner of the file. The path
+    is in parentheses, unless the text `before` has an open parenthesis on its last line."""
     name, line = f"`{path}`{whose}", before.rpartition("\n")[2]
     if path.removesuffix(".md").endswith(text.strip("`").removesuffix(".md")):
         return name

@@ -19,9 +19,9 @@ from project import TOP, text_of
 
 WIDTH, HEIGHT, MARGIN = 9, 20, 12  # the width of a column, the height of a line, and the margin, in pixels
 BACKGROUND, FOREGROUND, FRAME = "#1e1e2e", "#e6e6ef", "#8a8fa8"
-OUTLINE = "outline"  # is in place of each outline if pictures are compared without outlines
+OUTLINE = "outline"  # the text in place of each outline, if pictures are compared without outlines
 COLORS = {"9": "#ff6b6b", "10": "#7ddc8a", "11": "#f2c94c"}
-# The lines of a frame character to the left, to the right, up and down: 0 is no line, 1 a single line, and 2 a double line.
+# The lines of a frame character to the left, to the right, up and down: 0 means no line, 1 a single line, and 2 a double line.
 SIDES = {
     "─": "1100", "│": "0011", "╌": "1100", "┆": "0011", "═": "2200",
     "┌": "0101", "┐": "1001", "└": "0110", "┘": "1010", "╭": "0101", "╮": "1001", "╰": "0110", "╯": "1010",

@@ -93,8 +93,8 @@ class Compiler:
         os.remove(f"{out}.ll")
 
     def attributes(self, line):
-        """A line with attributes of functions, changed for the triple. It has the triple's own processor and its way to probe the
-        stack."""
+        """A line with attributes of functions, changed for the triple. The result has the triple's own processor, and the
+        triple's way to probe the stack."""
         dropped = ["target-features", "tune-cpu"]
         if not self.triple.startswith("x86_64"):
             dropped.append("target-cpu")
@@ -179,7 +179,7 @@ def with_short_table(module):
 
 
 def make_by_module(triple, out):
-    """Compiles the module of the library, and the functions for memory by the same way, for a triple."""
+    """Compiles the module of the library for a triple, and in the same way the functions for memory."""
     if not (OUT / "module.bc").exists():
         subprocess.run([TOP / "tools/make/c_library.py"], check=True)
     compiler = Compiler(triple, (OUT / "module.words").read_text().split("\n"))

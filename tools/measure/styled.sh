@@ -1,6 +1,6 @@
 #!/bin/sh
 # Counts the instructions of programs that draw 10,000 rows of 6 cells with styles, and prints their eight costliest
-# functions. It needs valgrind, and takes about a minute.
+# functions. This needs valgrind, and takes about a minute.
 #
 # usage: tools/measure/styled.sh colours|sequences PROGRAM..
 # With `colours`, every second cell has a colour and an attribute. With `sequences`, every second cell has escape sequences, which

@@ -49,7 +49,7 @@ FILE = """(text, name) => {
 
 
 class Page:
-    """A page in Chromium, which this controls by Chromium's protocol for tools over two pipes."""
+    """A page in Chromium. Two pipes lead to Chromium, and commands of its protocol for tools control the page."""
 
     def __init__(self, program, address, profile):
         (read, theirs_out), (theirs_in, write) = os.pipe(), os.pipe()

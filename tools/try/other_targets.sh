@@ -32,7 +32,8 @@ unpack() {
   [ -n "$(ls "$work/$1")" ]
 }
 
-# Compares the drawings of a library with those of this system: draw SYSTEM RUN COMPILER ARGUMENT..; RUN is the program that runs it, or nothing.
+# Compares the drawings of a library with those of this system: draw SYSTEM RUN COMPILER ARGUMENT.. RUN is a program that
+# runs programs of the system, or nothing.
 draw() {
   system=$1 run=$2 compiler=$3
   shift 3

@@ -47,8 +47,8 @@ compare_csv() {
   echo "$* draws as csvtable"
 }
 
-# In a terminal of 44 columns, the program's table isn't wider than the terminal. It has colours, except with NO_COLOR. In a pipe
-# it has neither this width nor colours.
+# In a terminal of 44 columns, the program's table isn't wider than the terminal, and it has colours, except with NO_COLOR. In a
+# pipe, the table has neither this width nor colours.
 try_in_terminal() {
   columns() { sed 's/.\[[0-9;]*m//g; s/\r//' "$work/drawn" | LC_ALL=C.UTF-8 wc -L; }
   colors() { grep -c '38;5;' "$work/drawn" || true; }
@@ -72,8 +72,8 @@ dpkg_in() {
   PATH=$PATH:/usr/sbin:/sbin dpkg --root="$root" --log=/dev/null --force-not-root "$@"
 }
 
-# A Debian package is installed into a root that has only the C library. It must draw a table there. When it is removed, nothing of
-# it may stay.
+# A Debian package is installed into a root that has only the C library. The package must draw a table there. When the package is
+# removed, none of its files may stay.
 try_debian() {
   root=$(mktemp -d "$work/root.XXXXXX")
   mkdir -p "$root/var/lib/dpkg/info" "$root/var/lib/dpkg/updates"

@@ -345,8 +345,8 @@ def lost_in(run, out):
 
 
 def seen_of(run, result, whole, has_frame=True):
-    """The faults that a person sees in a drawing, or "right" if there are none. If there is no drawing, it is the reason for that.
-    `whole` is the drawing without a width."""
+    """The faults that a person sees in a drawing, or "right" if there are none. If there is no drawing, the reason is
+    returned. `whole` is the drawing without a width."""
     if result.returncode:
         return "refused: " + report_in(result)
     out, whole = result.stdout.decode(errors="replace"), whole.stdout.decode(errors="replace")

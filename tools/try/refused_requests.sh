@@ -5,7 +5,7 @@
 #    is allowed because `collect` first asks for room for all values, and if this is refused, for room for one value.
 #  - test_refused on each of its calls. A run must print that the call was refused as promised. If the refused request isn't made
 #    by the call, the run must end with status 3 and no output. After a call that adds three rows, it must also print the number of
-#    kept rows. This is 0 if an early request is refused, and 1 and 2 if later requests are.
+#    rows that the table still has: 0 if an early request is refused, and 1 or 2 if a later request is refused.
 #
 # format_row must make fewer than 250 requests for 100 pieces, also of wide texts, of styled cells and of cut cells. There are two
 # requests for each piece and its line or cell, and a few more. arrange_content must make the same number of requests for 1,000

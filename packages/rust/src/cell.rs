@@ -37,7 +37,7 @@ impl Cell {
         Cell::new_owned(content.to_string())
     }
 
-    /// Makes a cell without settings that has this text. The text is moved into the cell, and not copied.
+    /// Makes a cell with the text `content`, and without settings. The text is moved into the cell, and not copied.
     pub fn new_owned(content: String) -> Cell {
         Cell {
             text: Text::Own(content),
@@ -52,13 +52,13 @@ impl Cell {
         }
     }
 
-    /// Returns a copy of the text.
+    /// Returns a copy of the cell's text.
     pub fn content(&self) -> String {
         self.text.to_string()
     }
 
-    /// Sets the cell's delimiter: the character at which its long lines may break. It takes precedence over the delimiter of the
-    /// column and that of the table.
+    /// Sets the cell's delimiter: the character at which its long lines may break. This delimiter takes precedence over those of
+    /// the column and the table.
     ///
     /// ```
     /// use comfy_table_proved::{Cell, ContentArrangement, Table};
@@ -77,7 +77,7 @@ impl Cell {
         Cell { delimiter: Some(delimiter), ..self }
     }
 
-    /// Sets the alignment of the text. It takes precedence over the column's alignment.
+    /// Sets the alignment of the text. This alignment takes precedence over that of the column.
     ///
     /// ```
     /// use comfy_table_proved::{Cell, CellAlignment, Table};
@@ -108,7 +108,8 @@ impl Cell {
         Cell { foreground: Some(color), ..self }
     }
 
-    /// Sets the colour of the background. It is written under the same conditions as the colour of [`fg`](Cell::fg).
+    /// Sets the colour of the background. This colour is written under the same conditions as the text's colour, which
+    /// [`fg`](Cell::fg) sets.
     ///
     /// ```
     /// use comfy_table_proved::{Cell, Color, Table};
@@ -141,7 +142,7 @@ impl Cell {
         self
     }
 
-    /// Adds several attributes, as [`add_attribute`](Cell::add_attribute) adds one.
+    /// Adds several attributes, each as [`add_attribute`](Cell::add_attribute) does.
     #[cfg(feature = "tty")]
     #[must_use]
     pub fn add_attributes(mut self, attributes: Vec<Attribute>) -> Cell {
@@ -156,7 +157,7 @@ impl<T: ToString> From<T> for Cell {
     }
 }
 
-/// The cells of a row. Anything that iterates over cells, or over values with `Display`, can be converted to them.
+/// The cells of a row. Anything that iterates over cells, or over values with `Display`, can be converted to `Cells`.
 ///
 /// ```
 /// use comfy_table_proved::Cells;

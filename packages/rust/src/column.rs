@@ -29,8 +29,8 @@ impl Column {
         Column { index, padding: (1, 1), delimiter: None, cell_alignment: None, constraint: None }
     }
 
-    /// Sets the padding. The first number is how many terminal columns are free at the left of each text. The second number is how
-    /// many are free at the right. 0 means none.
+    /// Sets the paddings of the column: the numbers of free terminal columns at the left and at the right of each text, in this
+    /// order. 0 means no padding.
     ///
     /// ```
     /// use comfy_table_proved::Table;
@@ -58,8 +58,8 @@ impl Column {
         left.saturating_add(right)
     }
 
-    /// Sets the column's delimiter: the character at which its long lines may break. It takes precedence over the table's
-    /// delimiter. The delimiter of a cell takes precedence over the column's.
+    /// Sets the column's delimiter: the character at which its long lines may break. This delimiter takes precedence over that of
+    /// the table. The delimiter of a cell takes precedence over that of the column.
     pub fn set_delimiter(&mut self, delimiter: char) -> &mut Column {
         self.delimiter = Some(delimiter);
         self
@@ -81,12 +81,12 @@ impl Column {
         self
     }
 
-    /// Returns the constraint on the width, or `None` if there is none.
+    /// Returns the constraint on the width of the column, or `None` if no constraint is set.
     pub fn constraint(&self) -> Option<&ColumnConstraint> {
         self.constraint.as_ref()
     }
 
-    /// Removes the constraint on the width.
+    /// Removes the constraint on the width of the column. A hidden column is then drawn again.
     pub fn remove_constraint(&mut self) -> &mut Column {
         self.constraint = None;
         self
@@ -97,7 +97,8 @@ impl Column {
         self.constraint == Some(ColumnConstraint::Hidden)
     }
 
-    /// Sets the alignment of the column's texts. The alignment of a cell takes precedence over it.
+    /// Sets the alignment of the column's texts. The alignment of a cell takes precedence over the column's alignment. Without this
+    /// call, texts are left-aligned.
     ///
     /// ```
     /// use comfy_table_proved::{CellAlignment, Table};

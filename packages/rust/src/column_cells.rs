@@ -4,7 +4,7 @@ use crate::cell::Cell;
 use crate::row::Row;
 
 /// An iterator over the cells of a column, from the top, without the header. For a row that has no cell in the column, the item is
-/// `None`. [`Table::column_cells_iter`](crate::Table::column_cells_iter) makes it.
+/// `None`. [`Table::column_cells_iter`](crate::Table::column_cells_iter) makes this iterator.
 pub struct ColumnCellIter<'a> {
     rows: slice::Iter<'a, Row>,
     column: usize,
@@ -25,8 +25,8 @@ impl<'a> Iterator for ColumnCellIter<'a> {
     }
 }
 
-/// An iterator over the cells of a column. The first item is the cell of the header. It is `None` if there is no header, or if the
-/// header has no cell in the column. The next items are those of [`ColumnCellIter`].
+/// An iterator over the cells of a column. The first item is the cell of the header, or `None` if there is no header or the header
+/// has no cell in the column. The other items are those of [`ColumnCellIter`].
 /// [`Table::column_cells_with_header_iter`](crate::Table::column_cells_with_header_iter) makes this iterator.
 pub struct ColumnCellsWithHeaderIter<'a> {
     // the item for the header, or `None` after it was returned

@@ -21,19 +21,20 @@ use crate::library::{self, CsvAnswer};
 
 /// Draws CSV with the arguments of the program csvtable, for example `&["-r", "price", "-w", "60"]`.
 ///
-/// The input has the encoding that the option `-e` names. Without this option it has UTF-8, or another encoding that csvtable
-/// recognises.
+/// The option `-e` names the encoding of the input. Without this option the input is read as UTF-8, or in another encoding that
+/// csvtable recognises.
 ///
-/// No file is opened. A file name among the arguments names the input in messages. If it ends with `.tsv` or `.tab`, and no
-/// argument sets a delimiter, TABs separate fields, unless the first line is `sep=` with another delimiter.
+/// No file is opened. A file name among the arguments names the input in messages. TABs separate the fields if this name ends with
+/// `.tsv` or `.tab`, no argument sets a delimiter, and the first line isn't `sep=` with another delimiter.
 ///
 /// The table has a greatest width only if the option `-w` sets one. The drawing ends with a line feed. If the input has no records,
 /// the drawing is empty.
 ///
 /// # Errors
 ///
-/// - [`Error::Arguments`] if the arguments are refused. If they ask for csvtable's help or version, the error has that text.
-/// - [`Error::Input`] if the input can't be drawn.
+/// - [`Error::Arguments`] if the arguments are refused, or if they request csvtable's help or version. The error has csvtable's
+///   message, help or version.
+/// - [`Error::Input`] if the input can't be drawn, for example because it isn't text.
 /// - [`Error::OutOfMemory`] if memory runs out.
 ///
 /// ```

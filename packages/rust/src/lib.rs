@@ -26,8 +26,8 @@
 //! # What tables can do
 //!
 //! - **Width**: [`Table::set_width`] sets the width of a table. Without this call it is the width of the terminal. With
-//!   [`ContentArrangement::Dynamic`] a table is at most that wide, and with [`ContentArrangement::DynamicFullWidth`] exactly
-//!   that wide. Long texts are wrapped.
+//!   [`ContentArrangement::Dynamic`], long texts are wrapped so that the table isn't wider than its width, if its columns can be
+//!   narrow enough for that. [`ContentArrangement::DynamicFullWidth`] also widens a narrower table to its width.
 //! - **Columns**: a [`ColumnConstraint`] fixes or limits the width of a [`Column`], or hides the column. Each column has its own
 //!   padding, which is the free space beside its texts.
 //! - **Alignment** of texts, for a column or for one [`Cell`]: [`CellAlignment`].

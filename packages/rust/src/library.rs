@@ -54,16 +54,17 @@ unsafe extern "C" {
     ) -> u32;
 }
 
-// The results of a call. There is also 1, which means that the room for the drawing was too small.
+// Three results of the functions. There is also 1, which means that the room for the drawing was too small.
 const DRAWN: u32 = 0;
 const INPUT_REFUSED: u32 = 2;
 const OUT_OF_MEMORY: u32 = 3;
 
-/// Memory ran out.
+/// The error of a call for which memory ran out.
 #[derive(Debug)]
 pub struct OutOfMemory;
 
-/// A table of cells: the texts of all cells, one after another, and the settings of each cell, row and column.
+/// A table of cells: the texts of all cells, one after another, and the settings of the cells, rows and columns in the numbers of
+/// comfy_table.h.
 #[derive(Default)]
 pub struct CellTable {
     pub texts: String,
@@ -73,8 +74,8 @@ pub struct CellTable {
 }
 
 /// Draws a table of cells. The only error is that memory runs out, because the lengths and counts of this package's tables add up,
-/// and all their settings are in comfy_table.h. `room` is the number of bytes that are allocated for the drawing. If the drawing
-/// has more bytes, it is made twice.
+/// and all their settings are in comfy_table.h. `room` is the number of bytes that are allocated for the drawing. The table is
+/// drawn a second time if the drawing has more bytes.
 pub fn draw_cells(table: &CellTable, indicator: &str, settings: &CellsSettings, room: usize) -> Result<String, OutOfMemory> {
     let (status, drawing) = written(room, |output, room, needed| {
         // SAFETY: each pointer and length belongs to a slice or a vector that is borrowed for the call, or to the room for the
@@ -112,8 +113,8 @@ pub struct Texts {
     pub counts: Vec<usize>,
 }
 
-/// Draws rows of texts. `columns` has the settings of each column that a row has. As in `draw_cells`, the only error is that
-/// memory runs out.
+/// Draws rows of texts. `columns` has the settings of each column that a row has. The only error is that memory runs out, as in
+/// `draw_cells`.
 pub fn draw_rows(texts: &Texts, columns: &[RowsColumn], settings: &RowsSettings) -> Result<String, OutOfMemory> {
     let room = room_for(texts.joined.len() + 8 * texts.lengths.len());
     let (status, drawing) = written(room, |output, room, needed| {
@@ -143,14 +144,14 @@ pub fn draw_rows(texts: &Texts, columns: &[RowsColumn], settings: &RowsSettings)
     Ok(drawing)
 }
 
-/// The answer for CSV and arguments of csvtable. It is a drawing, or csvtable's message about the input or about the arguments.
+/// The text that csvtable writes for an input and arguments: a drawing, or a message about the input or about the arguments.
 pub enum CsvAnswer {
     Drawing(String),
     OfInput(String),
     OfArguments(String),
 }
 
-/// Draws CSV with arguments of csvtable. A zero byte ends each argument.
+/// Draws CSV with arguments of csvtable. In `arguments`, a zero byte ends each argument. The only error is that memory runs out.
 pub fn draw_csv(input: &[u8], arguments: &str) -> Result<CsvAnswer, OutOfMemory> {
     let (status, text) = written(room_for(input.len()), |output, room, needed| {
         // SAFETY: as above.

@@ -3,7 +3,7 @@ use std::slice;
 use crate::cell::{Cell, Cells};
 use crate::text;
 
-/// The cells of a row, and the greatest number of lines that are drawn of it.
+/// The cells of a row, and the greatest number of lines that are drawn of the row.
 ///
 /// ```
 /// use comfy_table_proved::{Cell, Row};
@@ -32,8 +32,9 @@ impl Row {
         self
     }
 
-    /// Sets the greatest number of lines that are drawn of this row. A text with more lines is cut, and then ends with the table's
-    /// [truncation indicator](crate::Table::set_truncation_indicator). 0 counts as 1. Without this call there is no limit.
+    /// Sets the greatest number of lines that are drawn of this row. A text with more lines is cut, and ends with the table's
+    /// [truncation indicator](crate::Table::set_truncation_indicator), unless the column is narrower than the indicator. 0 counts
+    /// as 1. Without this call there is no limit.
     ///
     /// ```
     /// use comfy_table_proved::{Row, Table};

@@ -18,11 +18,11 @@ pub use table_style::{ContentLineStyle, LineStyle, TableStyle};
 /// ```
 #[derive(Clone, Copy, Debug, PartialEq, Eq, Hash)]
 pub enum CellAlignment {
-    /// At the left. A text without an alignment is there too.
+    /// The text is at the left, as a text without an alignment is.
     Left,
-    /// At the right.
+    /// The text is at the right.
     Right,
-    /// In the middle. If the number of free terminal columns is odd, there is one more before the text than after it.
+    /// The text is in the middle. If the number of free terminal columns is odd, one more is before the text than after it.
     Center,
 }
 
@@ -31,8 +31,8 @@ pub enum CellAlignment {
 /// [`Table::set_constraints`](crate::Table::set_constraints) sets the constraints of several columns, and
 /// [`Column::set_constraint`](crate::Column::set_constraint) the constraint of one column.
 ///
-/// Under [`ContentArrangement::DynamicFullWidth`], a table may be narrower than its width at first. Then all columns are widened,
-/// also those with a constraint.
+/// [`ContentArrangement::DynamicFullWidth`] widens all columns of a table that is narrower than its width, even columns with a
+/// constraint.
 #[derive(Clone, Copy, Debug, PartialEq, Eq)]
 pub enum ColumnConstraint {
     /// The column isn't drawn.
@@ -48,7 +48,8 @@ pub enum ColumnConstraint {
     /// +--------+");
     /// ```
     Hidden,
-    /// The column is as wide as its widest line, so none of its texts is wrapped.
+    /// The column is as wide as the widest line of its texts and its paddings, so none of its texts is wrapped.
+    /// [`ContentArrangement::DynamicFullWidth`] can make the column wider.
     ///
     /// ```
     /// use comfy_table_proved::{ColumnConstraint::*, ContentArrangement, Table};
@@ -64,7 +65,8 @@ pub enum ColumnConstraint {
     /// +------------+------+");
     /// ```
     ContentWidth,
-    /// The column has this width.
+    /// The column has this width. If the paddings leave no room for texts, the column is one terminal column wider than its
+    /// paddings. [`ContentArrangement::DynamicFullWidth`] can make the column wider.
     ///
     /// ```
     /// use comfy_table_proved::{ColumnConstraint::*, Table, Width::*};
@@ -78,7 +80,7 @@ pub enum ColumnConstraint {
     /// +--------+------+");
     /// ```
     Absolute(Width),
-    /// The column has at least this width.
+    /// The column has at least this width. The dynamic arrangements can still make the column as narrow as its longest line.
     ///
     /// ```
     /// use comfy_table_proved::{ColumnConstraint::*, Table, Width::*};
@@ -91,8 +93,9 @@ pub enum ColumnConstraint {
     /// +------+--------+");
     /// ```
     LowerBoundary(Width),
-    /// The column has at most this width. There is an exception under [`ContentArrangement::Disabled`], and also if the table's
-    /// width isn't known. The constraint is ignored then, unless a text is wider than this width even without its paddings.
+    /// The column has at most this width. There are two exceptions. [`ContentArrangement::DynamicFullWidth`] can make the column
+    /// wider. Under [`ContentArrangement::Disabled`], or if the table's width isn't known, the constraint is ignored, unless a text
+    /// without paddings is already wider than this width.
     ///
     /// ```
     /// use comfy_table_proved::{ColumnConstraint::*, Table, Width::*};
@@ -106,8 +109,8 @@ pub enum ColumnConstraint {
     /// +----+-------------+");
     /// ```
     UpperBoundary(Width),
-    /// The column has at least the width `lower`, and at most the width `upper`. `lower` works as the width of `LowerBoundary`,
-    /// and `upper` as the width of `UpperBoundary`.
+    /// The column has at least the width `lower`, and at most the width `upper`. `lower` has the effect of a `LowerBoundary`, and
+    /// `upper` that of an `UpperBoundary`.
     ///
     /// ```
     /// use comfy_table_proved::{ColumnConstraint::*, Table, Width::*};
@@ -122,9 +125,9 @@ pub enum ColumnConstraint {
     /// +------+-------------+");
     /// ```
     Boundaries {
-        /// The least width.
+        /// The least width of the column.
         lower: Width,
-        /// The greatest width.
+        /// The greatest width of the column.
         upper: Width,
     },
 }
@@ -134,8 +137,8 @@ pub enum ColumnConstraint {
 pub enum Width {
     /// The width is this number of terminal columns.
     Fixed(u16),
-    /// The width is this percentage of the table's width without its borders. More than 100 counts as 100. If the table's
-    /// [width](crate::Table::width) isn't known, the constraint is ignored.
+    /// The width is this percentage of the table's width without its borders. A number above 100 counts as 100. A constraint with
+    /// this width is ignored if the table's [width](crate::Table::width) isn't known.
     ///
     /// ```
     /// use comfy_table_proved::{ColumnConstraint::*, ContentArrangement, Table, Width::*};
@@ -153,8 +156,9 @@ pub enum Width {
 
 /// The rule by which columns get their widths.
 ///
-/// [`Table::set_content_arrangement`](crate::Table::set_content_arrangement) sets it.
-/// [`Table::set_width`](crate::Table::set_width) sets the table's width. Without that call it is the width of the terminal.
+/// [`Table::set_content_arrangement`](crate::Table::set_content_arrangement) sets this rule.
+/// [`Table::set_width`](crate::Table::set_width) sets the table's width. Without that call, the table's width is that of the
+/// terminal.
 #[derive(Clone, Debug)]
 pub enum ContentArrangement {
     /// Each column is as wide as its widest text, unless it has a constraint. No text is wrapped to fit the table's width. A new
@@ -171,8 +175,8 @@ pub enum ContentArrangement {
     /// +----+------------------------+");
     /// ```
     Disabled,
-    /// The table is at most as wide as the table's width, and texts are wrapped to fit it. Columns with short texts stay narrow.
-    /// If the table's width isn't known, this works as `Disabled`.
+    /// Texts are wrapped so that the table isn't wider than its width, if its columns can be narrow enough for that. Columns with
+    /// short texts stay narrow. `Dynamic` does the same as `Disabled` if the table's width isn't known.
     ///
     /// ```
     /// use comfy_table_proved::{ContentArrangement, Table};
@@ -186,7 +190,8 @@ pub enum ContentArrangement {
     /// +----+-------------+");
     /// ```
     Dynamic,
-    /// As `Dynamic`, but a narrower table is widened to the table's width. If this width isn't known, this works as `Disabled`.
+    /// Texts are wrapped as under `Dynamic`, and a narrower table is widened to its width. `DynamicFullWidth` does the same as
+    /// `Disabled` if the table's width isn't known.
     ///
     /// ```
     /// use comfy_table_proved::{ContentArrangement, Table};

@@ -54,7 +54,7 @@ pub struct Table {
     terminal: Terminal,
 }
 
-// The settings about the terminal. `is_there` keeps the system's answer.
+// The settings about the terminal. `is_there` keeps the result of the first check.
 #[cfg(feature = "tty")]
 #[derive(Clone, Debug, Default)]
 struct Terminal {
@@ -78,7 +78,7 @@ enum Form {
 }
 
 impl Table {
-    /// Makes a table without header and rows. Its style is [`ASCII_FULL`], and its arrangement is
+    /// Makes a table without header and rows. The style of the table is [`ASCII_FULL`], and its arrangement is
     /// [`ContentArrangement::Disabled`].
     ///
     /// ```
@@ -107,8 +107,8 @@ impl Table {
 
 /// Drawings.
 impl Table {
-    /// Returns the drawing without white space at the ends of its lines. In styles without a right border, lines otherwise end
-    /// with white space.
+    /// Returns the drawing without the white space at the ends of its lines. Lines of a style without a right border end with such
+    /// white space. Line feeds are between the lines, and not after the last line.
     ///
     /// ```
     /// use comfy_table_proved::{Table, presets::NOTHING};
@@ -122,8 +122,8 @@ impl Table {
         self.drawn(Form::Trimmed)
     }
 
-    /// Returns the lines of the drawing, from the top, without line feeds. This call draws the whole table, before the first line
-    /// is read.
+    /// Returns the lines of the drawing, from the top, without line feeds. The call draws the whole table before it returns the
+    /// iterator.
     ///
     /// ```
     /// use comfy_table_proved::Table;
@@ -143,8 +143,9 @@ impl Table {
         })
     }
 
-    /// Returns a number for each column: the width of the widest line of its texts, in terminal columns, without paddings. The
-    /// header's texts count too. A width above 65535 is returned as 65535. A column with a cell has a width of at least 1.
+    /// Returns a number for each column: the width of the widest line in the texts of the column, in terminal columns, without
+    /// paddings. The header's text counts too. A width above 65535 is returned as 65535. Each cell counts at least 1, even if its
+    /// text is empty. A column without cells has the width 0. Hidden columns are included.
     ///
     /// ```
     /// use comfy_table_proved::Table;
@@ -171,7 +172,7 @@ impl Table {
 
 /// Header, rows and columns.
 impl Table {
-    /// Sets the header, and makes the columns that its cells need. A new table has no header.
+    /// Sets the header, and makes the columns that its cells need. An earlier header is replaced. A new table has no header.
     ///
     /// ```
     /// use comfy_table_proved::Table;
@@ -216,8 +217,8 @@ impl Table {
         self
     }
 
-    /// Adds a row if the predicate returns true. Its arguments are the number of rows that the table has without the header, and
-    /// the row.
+    /// Adds a row if `predicate` returns true. The arguments of `predicate` are the number of rows that the table has without the
+    /// header, and the row.
     ///
     /// ```
     /// use comfy_table_proved::Table;
@@ -263,8 +264,8 @@ impl Table {
         self
     }
 
-    /// Adds all the given rows if the predicate returns true, and none of them otherwise. Its arguments are the number of rows
-    /// that the table has without the header, and the given rows.
+    /// Adds all rows of `rows` if `predicate` returns true, and otherwise none of them. The arguments of `predicate` are the number
+    /// of rows that the table has without the header, and `rows`.
     ///
     /// ```
     /// use comfy_table_proved::Table;
@@ -324,7 +325,7 @@ impl Table {
         self.rows.get_mut(index)
     }
 
-    /// Returns an iterator over the rows, without the header.
+    /// Returns an iterator over the rows, from the top, without the header.
     ///
     /// ```
     /// use comfy_table_proved::{Row, Table};
@@ -338,7 +339,7 @@ impl Table {
         self.rows.iter()
     }
 
-    /// Returns an iterator over mutable references to the rows, without the header.
+    /// Returns an iterator over mutable references to the rows, from the top, without the header.
     ///
     /// ```
     /// use comfy_table_proved::Table;
@@ -354,7 +355,7 @@ impl Table {
         self.rows.iter_mut()
     }
 
-    /// Calls [`discover_columns`](Table::discover_columns), and then returns the number of columns.
+    /// Calls [`discover_columns`](Table::discover_columns), and then returns the number of columns, including hidden columns.
     ///
     /// ```
     /// use comfy_table_proved::Table;
@@ -389,12 +390,12 @@ impl Table {
         self.columns.get_mut(index)
     }
 
-    /// Returns an iterator over the columns, from the left.
+    /// Returns an iterator over the columns, from the left. Hidden columns are included.
     pub fn column_iter(&self) -> slice::Iter<'_, Column> {
         self.columns.iter()
     }
 
-    /// Returns an iterator over mutable references to the columns, from the left.
+    /// Returns an iterator over mutable references to the columns, from the left. Hidden columns are included.
     ///
     /// ```
     /// use comfy_table_proved::Table;
@@ -410,8 +411,8 @@ impl Table {
         self.columns.iter_mut()
     }
 
-    /// Returns an iterator over the cells of a column, from the top, without the header. There is one item for each row. It is
-    /// `None` if the row has no cell in this column. The argument is the position of the column, counted from 0.
+    /// Returns an iterator over the cells of a column, from the top, without the header. `column_index` is the position of the
+    /// column, counted from 0. There is one item for each row. The item is `None` if the row has no cell in this column.
     ///
     /// ```
     /// use comfy_table_proved::{Cell, Table};
@@ -425,8 +426,9 @@ impl Table {
         ColumnCellIter::new(&self.rows, column_index)
     }
 
-    /// Returns an iterator over the cells of a column, which begins with the cell of the header. The first item is `None` if there
-    /// is no header, or if the header has no cell in this column. The argument is the position of the column, counted from 0.
+    /// Returns an iterator over the cells of a column, which begins with the cell of the header. `column_index` is the position of
+    /// the column, counted from 0. The first item is `None` if there is no header, or if the header has no cell in this column. The
+    /// other items are those of [`column_cells_iter`](Table::column_cells_iter).
     ///
     /// ```
     /// use comfy_table_proved::{Cell, Table};
@@ -466,7 +468,7 @@ impl Table {
 
 /// Settings.
 impl Table {
-    /// Sets the style: one of the [`presets`](crate::presets), or one of your own.
+    /// Sets the style, which is the characters of the frame: one of the [`presets`](crate::presets), or a style of your own.
     ///
     /// ```
     /// use comfy_table_proved::{Table, presets::UTF8_FULL};
@@ -483,7 +485,7 @@ impl Table {
         self
     }
 
-    /// Returns the style.
+    /// Returns the style: the characters of the frame.
     ///
     /// ```
     /// use comfy_table_proved::{Table, presets::ASCII_FULL};
@@ -494,7 +496,7 @@ impl Table {
         self.style
     }
 
-    /// Returns a mutable reference to the style.
+    /// Returns a mutable reference to the style: the characters of the frame.
     ///
     /// ```
     /// use comfy_table_proved::Table;
@@ -521,18 +523,20 @@ impl Table {
         self
     }
 
-    /// Returns the rule by which columns get their widths.
+    /// Returns the rule by which columns get their widths, which [`set_content_arrangement`](Table::set_content_arrangement) sets.
     pub fn content_arrangement(&self) -> ContentArrangement {
         self.arrangement.clone()
     }
 
-    /// Sets the width of the table, in terminal columns. Without this call it is the width of the terminal, if the output is a
-    /// terminal.
+    /// Sets the width of the table, in terminal columns. Without this call it is the width of the terminal. There is no width if
+    /// the output isn't a terminal, or if the feature `tty` is off.
     ///
     /// The [`ContentArrangement`] decides what the width does:
     ///
-    /// - [`Dynamic`](ContentArrangement::Dynamic): the table is at most that wide.
-    /// - [`DynamicFullWidth`](ContentArrangement::DynamicFullWidth): the table is exactly that wide.
+    /// - [`Dynamic`](ContentArrangement::Dynamic): texts are wrapped so that the table isn't wider than this width, if its columns
+    ///   can be narrow enough for that.
+    /// - [`DynamicFullWidth`](ContentArrangement::DynamicFullWidth): texts are wrapped as under `Dynamic`, and a narrower table is
+    ///   widened to this width.
     /// - [`Disabled`](ContentArrangement::Disabled), which a new table has: no text is wrapped to fit the table. Only a
     ///   [`Width::Percentage`](crate::Width::Percentage) depends on the width.
     ///
@@ -556,22 +560,23 @@ impl Table {
         self
     }
 
-    /// Returns the width of the table, in terminal columns. This is the width that [`set_width`](Table::set_width) has set. If
-    /// none was set, it is the width of the terminal. `None` means that no width was set, and that the output isn't a terminal
-    /// ([`is_tty`](Table::is_tty)) or the terminal's width isn't known.
+    /// Returns the width of the table, in terminal columns. This is the width that [`set_width`](Table::set_width) has set. Without
+    /// that call it is the width of the terminal, or `None` if the output isn't a terminal ([`is_tty`](Table::is_tty)) or the
+    /// terminal's width isn't known.
     #[cfg(feature = "tty")]
     pub fn width(&self) -> Option<u16> {
         self.width.or_else(|| if self.is_tty() { terminal::columns() } else { None })
     }
 
-    /// Returns the width that [`set_width`](Table::set_width) has set, in terminal columns, or `None` if none was set.
+    /// Returns the width that [`set_width`](Table::set_width) has set, in terminal columns, or `None` without that call.
     #[cfg(not(feature = "tty"))]
     pub fn width(&self) -> Option<u16> {
         self.width
     }
 
-    /// Sets the constraints of the first columns: the first constraint for the first column, and so on. Constraints for which
-    /// there is no column are ignored, so call this after a header or a row was added.
+    /// Sets the constraints of the first columns: the first constraint for the first column, and so on. Constraints for which there
+    /// is no column are ignored, so call this after a header or a row was added. Columns after the last constraint keep their own
+    /// constraints.
     ///
     /// ```
     /// use comfy_table_proved::{ColumnConstraint::*, Table, Width::*};
@@ -588,7 +593,7 @@ impl Table {
     }
 
     /// Sets the table's delimiter: the character at which long lines may break. In a new table it is a space. The delimiter of a
-    /// column or a cell takes precedence over the table's.
+    /// column or a cell takes precedence over the delimiter of the table.
     ///
     /// ```
     /// use comfy_table_proved::{ContentArrangement, Table};
@@ -606,9 +611,9 @@ impl Table {
         self
     }
 
-    /// Sets the truncation indicator: a text that ends the last drawn line of a cell that [`Row::max_height`] cuts. If the column
-    /// has no room for it after that line, it replaces the line's last characters. An indicator that is wider than its column isn't
-    /// drawn. In a new table it is `…`.
+    /// Sets the truncation indicator. If [`Row::max_height`] cuts the text of a cell, the last drawn line of the text ends with the
+    /// indicator. If the column has no room for the indicator after this line, the indicator replaces the last characters of the
+    /// line. An indicator that is wider than its column isn't drawn. In a new table the indicator is `…`.
     ///
     /// ```
     /// use comfy_table_proved::{Row, Table};
@@ -664,22 +669,23 @@ impl Table {
         self
     }
 
-    /// Makes [`is_tty`](Table::is_tty) ask about standard error instead of standard output. Call this before the table is drawn,
-    /// because the system's first answer is kept.
+    /// Makes [`is_tty`](Table::is_tty) check whether standard error is a terminal, and not whether standard output is one. Call
+    /// this before the table is drawn, because the result of the first check is kept.
     pub fn use_stderr(&mut self) -> &mut Table {
         self.terminal.is_at_stderr = true;
         self
     }
 
     /// Returns true if the output is a terminal. The output is standard output, or standard error after
-    /// [`use_stderr`](Table::use_stderr). After [`force_no_tty`](Table::force_no_tty) the result is always false. Otherwise the
-    /// system's first answer is kept.
+    /// [`use_stderr`](Table::use_stderr). After [`force_no_tty`](Table::force_no_tty) the result is always false. Without that
+    /// call, the first call of `is_tty` checks the output, and later calls return the same result.
     pub fn is_tty(&self) -> bool {
         let ask = || if self.terminal.is_at_stderr { io::stderr().is_terminal() } else { io::stdout().is_terminal() };
         !self.terminal.is_denied && *self.terminal.is_there.get_or_init(ask)
     }
 
-    /// Writes colours and attributes even if the output isn't a terminal.
+    /// Makes the table write colours and attributes even if the output isn't a terminal. No colour is written if the environment
+    /// variable `NO_COLOR` is set and not empty.
     ///
     /// ```
     /// use comfy_table_proved::{Attribute, Cell, Table};
@@ -693,14 +699,15 @@ impl Table {
         self
     }
 
-    /// Returns true if colours and attributes are written. They are written if the output is a terminal
-    /// ([`is_tty`](Table::is_tty)), and after [`enforce_styling`](Table::enforce_styling).
+    /// Returns true if colours and attributes are written: if the output is a terminal ([`is_tty`](Table::is_tty)), or after
+    /// [`enforce_styling`](Table::enforce_styling). Even then, no colour is written if the environment variable `NO_COLOR` is set
+    /// and not empty.
     pub fn should_style(&self) -> bool {
         self.terminal.enforces_styling || self.is_tty()
     }
 
-    /// Applies colours and attributes to texts only. Without this call they also apply to the spaces beside a text, so that a
-    /// background fills the whole cell.
+    /// Applies colours and attributes to texts only. Without this call, colours and attributes also apply to the spaces beside a
+    /// text, so that a background fills the whole cell.
     ///
     /// ```
     /// use comfy_table_proved::{Attribute, Cell, Table};

@@ -1,17 +1,17 @@
-//! Questions to the terminal and the environment.
+//! Finds the width of the terminal, and reads the environment variable NO_COLOR.
 
 use std::env;
 use std::io;
 use std::sync::OnceLock;
 
-/// The width of the terminal that controls the process, in columns. If this width isn't known, it is the width of the terminal
-/// that standard output writes to. `None` means that neither width is known.
+/// The width of the terminal that controls the process, in terminal columns. If this width isn't known, the result is the width of
+/// the terminal that standard output writes to. `None` means that neither width is known.
 pub fn columns() -> Option<u16> {
     let of_process = system::terminal().ok().and_then(|terminal| system::columns_of(&terminal));
     of_process.or_else(|| system::columns_of(&io::stdout()))
 }
 
-/// True if the environment variable NO_COLOR was set and not empty when this was first called.
+/// True if the environment variable NO_COLOR was set and not empty when this function was first called.
 pub fn is_without_colors() -> bool {
     static ANSWER: OnceLock<bool> = OnceLock::new();
     *ANSWER.get_or_init(|| env::var_os("NO_COLOR").is_some_and(|word| !word.is_empty()))

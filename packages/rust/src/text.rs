@@ -8,8 +8,8 @@ use crate::cell::Cell;
 // The texts of a row are joined if it has at least this number of cells. With fewer cells, joining takes more time than it saves.
 const JOINED: usize = 5;
 
-/// The text of a cell. `Own` is a string of its own. `Part` is a range of bytes in a longer text, which joins the texts of all
-/// cells of a row.
+/// The text of a cell. `Own` is a string for this cell alone. `Part` is the range of bytes from `start` to `end` in a longer text,
+/// which joins the texts of all cells of a row.
 #[derive(Clone)]
 pub enum Text {
     Own(String),
@@ -17,7 +17,7 @@ pub enum Text {
 }
 
 impl Text {
-    /// Returns the number of bytes.
+    /// Returns the number of bytes of the text.
     pub fn len(&self) -> usize {
         match self {
             Text::Own(text) => text.len(),
@@ -76,7 +76,7 @@ pub fn join(cells: &mut [Cell]) {
     }
 }
 
-/// Appends the texts of cells to a text.
+/// Appends the texts of `cells` to `joined`, in the order of the cells.
 pub fn push_all(joined: &mut String, cells: &[Cell]) {
     match joined_in(cells) {
         Some(texts) => joined.push_str(texts),

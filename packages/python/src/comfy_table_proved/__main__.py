@@ -40,7 +40,7 @@ def _is_option(argument: str) -> bool:
 def _file_of(arguments: list[str]) -> str:
     """The first argument that is neither an option nor an option's value.
 
-    If there is none, the result is "-". csvtable refuses a second such argument.
+    If there is no such argument, the result is "-". csvtable refuses a second such argument.
     """
     valued = _with_values()
     words = iter(arguments)
@@ -67,9 +67,9 @@ def _takes_the_next(option: str, valued: set[str]) -> bool:
 
 
 def _with_values() -> set[str]:
-    """The options that take values.
+    """The names of csvtable's options that take values.
 
-    csvtable's help has them in the form `-w, --width <N>`.
+    The names are read from csvtable's help, which has these options in the form `-w, --width <N>`.
     """
     try:
         text = draw_csv(b"", ["-h"])
@@ -85,8 +85,9 @@ def _asks_for_text(arguments: list[str]) -> bool:
 def _of_terminal(arguments: list[str]) -> list[str]:
     """Options that make csvtable draw as it does in a terminal.
 
-    One is --width with the terminal's width, unless the arguments set a width or ask for Markdown. The other is --color=always,
-    unless the arguments have --color, or NO_COLOR is set and not empty. There are none if standard output isn't a terminal.
+    One option is --width with the terminal's width, unless the arguments set a width or request Markdown. The other option is
+    --color=always, unless the arguments have --color, or NO_COLOR is set and not empty. The list is empty if standard output isn't
+    a terminal.
     """
     if not sys.stdout.isatty():
         return []

@@ -18,19 +18,30 @@ _SIDES = {None: BY_CONTENTS, "left": LEFT, "right": RIGHT, "decimal": RIGHT, "ce
 
 
 class Layout:
-    """The number of a table's columns, and their names if it has a header."""
+    """The number of a table's columns, and the names of the columns.
+
+    The list of names is empty if the table has no header.
+    """
 
     def __init__(self, names: list[str], count: int) -> None:
         self._names, self._count = names, count
 
     def positions_of(self, columns: Columns) -> list[int]:
-        """The positions of a column or of several columns, counted from 0."""
+        """The positions of a column or of several columns, counted from 0.
+
+        The list is empty for None. ValueError is raised if the table has no such column, or if the header has its name
+        twice.
+        """
         if columns is None:
             return []
         return [self._position_of(it) for it in ([columns] if isinstance(columns, (str, int)) else columns)]
 
     def chosen(self, columns: Columns, hidden: Columns) -> list[int]:
-        """The positions of the columns that are drawn, in the order of drawing."""
+        """The positions of the columns that are drawn, in the order of drawing.
+
+        All columns are drawn if `columns` is None or empty. The columns in `hidden` are left out. ValueError is raised if no column
+        is left, and for the reasons that `positions_of` has.
+        """
         left_out = set(self.positions_of(hidden))
         positions = [it for it in self.positions_of(columns) or range(self._count) if it not in left_out]
         if not positions:
@@ -40,7 +51,8 @@ class Layout:
     def numbers(self, sides: list[int], padding: Padding, widths: tuple[Widths, Widths, Widths]) -> list[ColumnNumbers]:
         """The settings of each column.
 
-        `widths` has three settings: the exact, the least and the greatest widths.
+        `widths` has three settings: the exact, the least and the greatest widths. ValueError is raised for a wrong padding or a
+        wrong width.
         """
         columns = zip(self._paddings(padding), sides, self._limits(*widths))
         return [ColumnNumbers(*pair, side, *limits) for pair, side, limits in columns]
@@ -48,9 +60,9 @@ class Layout:
     def sides(
         self, left: Columns, right: Columns, center: Columns, colalign: Optional[Sequence[Optional[str]]], otherwise: int
     ) -> list[int]:
-        """The side of each column.
+        """The side of each column, as a number of comfy_table.h.
 
-        A column that no setting aligns has the side `otherwise`.
+        A column that no setting aligns has the side `otherwise`. ValueError is raised if two settings align a column differently.
         """
         sides = [side or otherwise for side in self._aligned(colalign)]
         wanted: dict[int, int] = {}
@@ -65,7 +77,8 @@ class Layout:
     def _limits(self, colwidths: Widths, mincolwidths: Widths, maxcolwidths: Widths) -> list[tuple[int, int]]:
         """The least and the greatest width of each column's texts.
 
-        Widths are in terminal columns, and 0 means no limit. For an exact width, both are that width.
+        Widths are in terminal columns, and 0 means no limit. A column with an exact width has this width as its least and as its
+        greatest width. ValueError is raised if an exact width isn't the only one, or if a least width is above the greatest width.
         """
         fixed, least = self._widths(colwidths, "colwidths"), self._widths(mincolwidths, "mincolwidths")
         limits: list[tuple[int, int]] = []
@@ -80,7 +93,8 @@ class Layout:
     def _widths(self, setting: Widths, name: str) -> list[int]:
         """The width that a setting has for each column.
 
-        Widths are in terminal columns, and 0 means that the setting has no width for the column.
+        Widths are in terminal columns, and 0 means that the setting has no width for the column. `name` is the setting's name, for
+        the message of the ValueError that a wrong width raises.
         """
         widths = self._for_each(setting)
         for width in widths:
@@ -89,14 +103,18 @@ class Layout:
         return [0 if width is None else int(width) for width in widths]
 
     def _paddings(self, padding: Padding) -> list[tuple[int, int]]:
-        """The left and the right padding of each column, in terminal columns."""
+        """The left and the right padding of each column.
+
+        Paddings are in terminal columns. A column without a padding in `padding` has a padding of 1 on each side.
+        """
         wanted = self._for_each(padding) if isinstance(padding, Mapping) else [padding] * self._count
         return [(1, 1) if it is None else _pair_of(it) for it in wanted]
 
     def _for_each(self, setting: Any) -> list[Any]:
-        """The value of a setting for each column. It is None for a column without a value.
+        """The value of a setting for each column.
 
-        A setting is one value for all columns, a list of values for the first columns, or a dict of values by column.
+        The value is None for a column without a value. A setting is one value for all columns, a list of values for the first
+        columns, or a dict of values by column.
         """
         if isinstance(setting, Mapping):
             found = {self._position_of(column): value for column, value in setting.items()}

@@ -1,4 +1,7 @@
-"""The functions of the library for C, which is in the folder of this file."""
+"""The functions of the library for C.
+
+The library is in the folder of this file.
+"""
 
 from __future__ import annotations
 
@@ -16,7 +19,7 @@ _FILES = {"darwin": "libcomfy_table.dylib", "win32": "comfy_table.dll"}
 def _load() -> ctypes.CDLL:
     """Loads the library of this wheel.
 
-    ImportError is raised if the wheel is for another system.
+    ImportError is raised if the library can't be loaded, for example because the wheel is for another system.
     """
     file = Path(__file__).with_name(_FILES.get(sys.platform, "libcomfy_table.so"))
     try:
@@ -29,7 +32,7 @@ def _load() -> ctypes.CDLL:
 
 _LIBRARY = _load()
 
-# Two results of a call. 0 means that the table was drawn. Other results mean that something was refused.
+# Two results of the library's functions. 0 means that the table was drawn. Any other result means that an argument was refused.
 _ROOM_TOO_SMALL = 1
 _OUT_OF_MEMORY = 3
 
@@ -38,7 +41,7 @@ _NUMBER = ctypes.c_uint32
 
 # In comfy_table.h this number means no limit.
 NO_LIMIT = 2**64 - 1
-# In comfy_table.h this number means no width, as each number above 65535 does.
+# In comfy_table.h this number means no width, and so does each number above 65535.
 NO_WIDTH = 2**32 - 1
 # The number of the style that has a frame of one's own.
 OWN_STYLE = 2**32 - 1
@@ -105,7 +108,7 @@ class _Column(ctypes.Structure):
 class Look(NamedTuple):
     """The look of a text, in numbers of comfy_table.h.
 
-    A colour is five numbers: kind, number, red, green and blue.
+    A colour is five numbers: kind, number, red, green and blue. 0 means that a setting isn't set.
     """
 
     alignment: int = 0
@@ -117,8 +120,8 @@ class Look(NamedTuple):
 class ColumnNumbers(NamedTuple):
     """The settings of a column: `struct comfy_rows_column` of comfy_table.h.
 
-    Paddings and widths are in terminal columns. `least` and `greatest` are the least and the greatest width, without paddings. 0
-    means no limit there.
+    Paddings and widths are in terminal columns. `least` and `greatest` are the least and the greatest width, without paddings. If
+    one of these two is 0, there is no such limit.
     """
 
     left_padding: int
@@ -129,9 +132,9 @@ class ColumnNumbers(NamedTuple):
 
 
 def _declared(name: str, arguments: list[Any]) -> Callable[..., int]:
-    """A function of comfy_table.h, with these arguments before its output.
+    """The function of comfy_table.h with this name.
 
-    Nothing checks that the arguments match the function in the library.
+    `arguments` are the types of its arguments before its output. Nothing checks that they match the function in the library.
     """
     function = _LIBRARY[name]
     function.restype = _NUMBER
@@ -150,8 +153,8 @@ def draw_csv(data: str | bytes, arguments: Sequence[str] = ()) -> str:
 
     data: the CSV. A str is passed as UTF-8. Bytes may be in another encoding, which the option "-e" names or csvtable recognises.
     arguments: the arguments, for example ["-r", "price", "-w", "60"]. No file is opened. A file name among them names the input in
-        messages. If it ends in .tsv or .tab, and no argument sets a delimiter, TABs separate fields, unless the first line is
-        "sep=" with another delimiter. The table has a greatest width only if "-w" sets one.
+        messages. TABs separate the fields if this name ends with .tsv or .tab, no argument sets a delimiter, and the first line
+        isn't "sep=" with another delimiter. The table has a greatest width only if "-w" sets one.
 
     The drawing is returned. It ends with a line feed, or is empty if the CSV has no records.
 
@@ -175,7 +178,7 @@ def draw_rows(
     columns: Sequence[ColumnNumbers],
     settings: RowsSettings,
 ) -> str:
-    """Draws rows of texts.
+    """Draws rows of texts, and returns the drawing.
 
     `looks` has a look for each text, or is empty. `heights` is empty, or has the greatest number of lines of the header and of each
     row. If a number is 0, `max_height` of the settings counts for its row. The header has no limit, whatever its number is.
@@ -205,7 +208,8 @@ def _bytes_of(look: Look) -> bytes:
 def _written(function: Callable[..., int], size: int, *arguments: object) -> tuple[int, str]:
     """Calls a function, and returns its result and the text that it writes.
 
-    `size` is the number of bytes of its input. If the buffer is too small, the function is called again with a larger buffer.
+    `size` is the number of bytes of the function's input. If the buffer is too small, the function is called again with a larger
+    buffer. MemoryError is raised if memory runs out.
     """
     room, needed = 4096 + 4 * size, _SIZE(0)
     while True:

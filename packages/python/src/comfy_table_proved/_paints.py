@@ -57,14 +57,15 @@ class Cell:
 
 
 def value_of(value: Any) -> Any:
-    """The value in a `Cell`. Any other value is returned itself."""
+    """The value in a `Cell`. Any other value is returned unchanged."""
     return value.value if isinstance(value, Cell) else value
 
 
 def writes_colors(wanted: str) -> bool:
     """True if colours are written.
 
-    This is so for "always". It is so for "auto" if standard output is a terminal, and NO_COLOR isn't set or is empty.
+    "always" always writes colours. "auto" writes colours if standard output is a terminal, and NO_COLOR isn't set or is empty.
+    "never" writes none. ValueError is raised for any other word.
     """
     if wanted not in ("auto", "always", "never"):
         raise ValueError(f'color takes "auto", "always" or "never", not {wanted!r}')
@@ -72,7 +73,10 @@ def writes_colors(wanted: str) -> bool:
 
 
 def _is_terminal(output: Any) -> bool:
-    """True if an output is a terminal. A closed or missing output is none."""
+    """True if an output is a terminal.
+
+    A closed or missing output isn't a terminal.
+    """
     try:
         return bool(output.isatty())
     except (AttributeError, ValueError):
@@ -82,7 +86,7 @@ def _is_terminal(output: Any) -> bool:
 def look_of(value: object, has_colors: bool) -> Look:
     """The look of a `Cell`, with its colours if `has_colors` is true.
 
-    Any other value has a look without settings.
+    The look of any other value has no settings.
     """
     if not isinstance(value, Cell):
         return PLAIN
@@ -92,7 +96,10 @@ def look_of(value: object, has_colors: bool) -> Look:
 
 @functools.lru_cache(maxsize=256)
 def paint_of(words: Optional[str]) -> Look:
-    """The look that words describe. An unknown word raises ValueError."""
+    """The look that words describe.
+
+    The look has no settings for None and for a text without words. ValueError is raised for an unknown word.
+    """
     paint = PLAIN
     for word in (words or "").split():
         ground, color = _color_of(word)
@@ -109,7 +116,7 @@ def paint_of(words: Optional[str]) -> Look:
 def sequence_of(words: str) -> str:
     """The SGR sequence that words describe, in the order of the words.
 
-    An unknown word raises ValueError.
+    ValueError is raised for an unknown word.
     """
     return f"\x1b[{';'.join(map(_parameters, words.split()))}m"
 
@@ -128,7 +135,8 @@ def _parameters(word: str) -> str:
 def _color_of(word: str) -> tuple[str, Optional[Color]]:
     """The prefix and the colour of a word.
 
-    The prefix is "on_" for a background, and otherwise "". The colour is None if the word is an attribute.
+    The prefix is "on_" for a colour of the background, and otherwise "". The colour is None if the word is an attribute. ValueError
+    is raised for an unknown word.
     """
     if word in _ATTRIBUTES:
         return "", None

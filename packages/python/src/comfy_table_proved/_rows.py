@@ -13,7 +13,10 @@ ShowIndex = Union[bool, str, Iterable[object]]
 
 
 class Values(NamedTuple):
-    """The values of a table's header and rows."""
+    """The values of a table's header and rows.
+
+    `header` is None if the table has no header.
+    """
 
     header: Optional[list[Any]]
     rows: list[list[Any]]
@@ -22,8 +25,8 @@ class Values(NamedTuple):
 class _Read(NamedTuple):
     """Rows, the names of their columns, and an index.
 
-    `keys` are the names of the columns, or None if there are none. `labels` are the index, with a label for each row, or None if
-    there is none.
+    `keys` are the names of the columns, or None if the columns have no names. `labels` are the index, with a label for each row, or
+    None if there is no index. `labels_name` is the name of the index, or None.
     """
 
     rows: list[list[Any]]
@@ -41,10 +44,10 @@ class _Fetched(list):  # type: ignore[type-arg]
 
 
 def kept(data: Any) -> Any:
-    """The same rows in a form that can be read more than once.
+    """The rows of `data`, in a form that can be read more than once.
 
-    A list or an iterator is copied to a new list, to which rows can be added. The rows of a cursor are fetched. Other data are
-    returned unchanged.
+    A list, a tuple or an iterator is copied to a new list, to which rows can be added. The rows of a cursor are fetched. Other data
+    are returned unchanged.
     """
     if getattr(data, "description", None) and hasattr(data, "fetchone"):
         fetched = _Fetched(data)
@@ -54,9 +57,9 @@ def kept(data: Any) -> Any:
 
 
 def values_of(data: Any, headers: Headers, showindex: ShowIndex) -> Values:
-    """The header and the rows that the settings ask for.
+    """The header and the rows of a table with these settings.
 
-    If they ask for an index, it is the first column.
+    If the settings require an index, it is the first column. ValueError is raised if a setting has a wrong value.
     """
     read = _read(data)
     if isinstance(headers, str) and headers == "firstrow":
@@ -80,7 +83,8 @@ def values_of(data: Any, headers: Headers, showindex: ShowIndex) -> Values:
 def _read(data: Any) -> _Read:
     """Reads the rows of `data`.
 
-    The attributes of `data` show its kind, so that this package needs to import neither pandas nor numpy.
+    The attributes of `data` show its kind, so that this package needs to import neither pandas nor numpy. TypeError is raised if
+    `data` is a text or bytes, or if one of its rows isn't a row.
     """
     names = getattr(getattr(data, "dtype", None), "names", None)
     if names:
@@ -124,7 +128,7 @@ def _rows_of(data: list[Any]) -> _Read:
 
 
 def _record(row: Any) -> dict[Any, Any] | list[Any]:
-    """The values of a row by their keys, or a list if the row has no keys."""
+    """The values of a row: a dict by key, or a list if the row has no keys."""
     if dataclasses.is_dataclass(row) and not isinstance(row, type):
         return {field.name: getattr(row, field.name) for field in dataclasses.fields(row)}
     if hasattr(row, "_fields"):
@@ -166,7 +170,8 @@ def _header_of(headers: Headers, read: _Read) -> Optional[list[Any]]:
 def _chosen_by(header: Optional[list[Any]], read: _Read) -> _Read:
     """Rows with only the columns that a header names.
 
-    This is done if each name of the header is a key of the rows. Otherwise the header's names are new names, and all columns stay.
+    Columns are left out only if each name of the header is a key of the rows. Otherwise the header's names are new names, and all
+    columns stay. If the rows are dicts, ValueError is raised for a name that isn't a key.
     """
     names = [value_of(name) for name in header or []]
     if read.keys is None or names == read.keys or not names:
@@ -181,7 +186,10 @@ def _chosen_by(header: Optional[list[Any]], read: _Read) -> _Read:
 
 
 def _index_of(wanted: ShowIndex, read: _Read, count: int) -> Optional[list[Any]]:
-    """The index: a label for each row, or None for no index."""
+    """The index: a label for each row, or None for no index.
+
+    `count` is the number of rows. ValueError is raised if `wanted` is an unknown word, or a list of another length.
+    """
     if isinstance(wanted, str):
         if wanted not in ("default", "always", "never"):
             raise ValueError(f'showindex takes "default", "always", "never", True, False or a list, not {wanted!r}')

@@ -32,8 +32,8 @@ _PRESETS = {
 _NUMBERS = {name: number for number, name in enumerate(_PRESETS)}
 
 
-# A frame with gaps has two spaces between columns. While the library draws, this character is in their place. If a text has it,
-# another one is used.
+# A frame with gaps has two spaces between columns. While the library draws, this character is in place of the two spaces. If a text
+# has this character, another character is used.
 GAP = "\ue000"
 
 
@@ -47,7 +47,7 @@ class Frame(NamedTuple):
     lines: tuple[str, ...]
     number: Optional[int] = None
     row_lines: int = EVERYWHERE
-    # The lines for a table without a header, or None if they are the same.
+    # The lines for a table without a header, or None if these lines are the same as `lines`.
     headless: Optional[tuple[str, ...]] = None
     is_markdown: bool = False
     # In Markdown, the line below the header has a colon for left-aligned columns too.
@@ -65,7 +65,7 @@ class Frame(NamedTuple):
     def numbers(self) -> tuple[tuple[int, ...], ...]:
         """The characters as numbers of comfy_table.h.
 
-        0 means no character. A line of texts has no fill.
+        0 means no character. A line of texts has three numbers, because it has no fill. Any other line has four.
         """
         lines = [tuple(0 if it == " " else ord(it) for it in line or "    ") for line in self.lines]
         return tuple(line if at not in (1, 3) else (line[0], *line[2:]) for at, line in enumerate(lines))
@@ -73,7 +73,8 @@ class Frame(NamedTuple):
     def for_table(self, has_header: bool, texts: Sequence[Sequence[str]]) -> Frame:
         """The frame for a table of these texts.
 
-        Without a header it has the lines `headless`, if there are any. Its character for gaps is one that no text has.
+        The frame of a table without a header has the lines `headless`, if they aren't None. The frame's character for gaps is a
+        character that no text has.
         """
         lines = self.lines if has_header or self.headless is None else self.headless
         if not self.has_gaps:
@@ -165,7 +166,8 @@ _INSTEAD = {
 def frame_of(style: Style, tablefmt: object) -> Frame:
     """The frame with a name, or with lines of your own.
 
-    ValueError is raised if no frame has the name.
+    If `style` and `tablefmt` are None, the frame is "rounded". ValueError is raised if no frame has the name, if the lines are
+    wrong, or if neither `style` nor `tablefmt` is None.
     """
     if tablefmt is not None:
         if style is not None:

@@ -78,7 +78,7 @@ def tabulate(
     rows: a list of rows. A row is a list or another iterable, or has keys, as a dict, a dataclass, a named tuple and a
         sqlite3.Row do. Instead of a list of rows you can pass a dict of columns, a cursor, a DataFrame, a Series or an array.
         Rows may have different lengths. `None` is drawn as an empty cell. Other values are drawn as `str` returns them. A `Cell`
-        is a value with its own colours and alignment. It can be in a row or in `headers`.
+        is a value with its own colours and alignment. A `Cell` can be in a row or in `headers`.
 
     headers: the names of the columns:
         - "keys": the keys of the rows
@@ -86,7 +86,7 @@ def tabulate(
         - a list of keys: these keys, and only the columns with these keys are drawn
         - another list: names for the columns in order. If rows are dicts, this raises ValueError, because their columns have no
           order. If the list has fewer names than the first row has columns, the first columns have no name
-        - a dict: a new name for each key that it has
+        - a dict: a new name for each key of the dict. Any other key of the rows is the name of its own column
         - None: there is no header
     tablefmt: a frame of the package tabulate, with its name and characters there:
         - "plain", "simple", "grid", "outline", "psql", "pretty", "presto", "orgtbl", "rst", "github" or "pipe"
@@ -103,8 +103,9 @@ def tabulate(
         character. "" means no line.
     floatfmt, intfmt: the formats of floats and ints, such as ".2f" and ",". Each is one format for all columns, or a list with a
         format for each column. `floatfmt` also applies to Decimals, and to ints in a column that has floats. None means no format.
-    missingval: the text for `None`: one text for all columns, or a list with a text for each column. A column of numbers stays one
-        if this text is "", "-", "n/a", "na", "null", "nan" or "inf". With another text it becomes a column of texts.
+    missingval: the text for `None`: one text for all columns, or a list with a text for each column. None means an empty
+        text. A column of numbers stays a column of numbers if this text is "", "-", "n/a", "na", "null", "nan" or "inf". With
+        another text it becomes a column of texts.
     showindex: whether an index is added as the first column:
         - True: the index of a DataFrame, or else the number of each row, counted from 0
         - a list: its values
@@ -116,9 +117,11 @@ def tabulate(
         position. Positions count from 0. -1 is the last column. `left`, `right` and `center` align columns. A column of numbers or
         amounts of money that isn't among them is right-aligned. `columns` chooses the columns to draw, and their order. `hidden`
         leaves columns out.
-    colalign: the alignments of the first columns, such as ("left", "right", "center").
+    colalign: the alignments of the first columns, such as ("left", "right", "center"). "decimal" is the same as "right". A column
+        with None is aligned by its values.
     align_decimals: True puts the decimal points of a column of numbers below each other.
-    width: the table's greatest width in terminal columns. "terminal" means the width of the terminal. None and 0 mean no limit.
+    width: the table's greatest width in terminal columns. "terminal" means the width of the terminal. None and 0 mean no limit. The
+        table is wider if the width has no room for the frame, the paddings and one terminal column for each column.
     full: True widens a narrower table to `width`. Without `width` it has no effect. Columns with their own widths are widened only
         if all columns have such widths.
     colwidths, mincolwidths, maxcolwidths: the exact, least and greatest widths of columns' texts, in terminal columns. Each is a
@@ -129,8 +132,9 @@ def tabulate(
     max_height: the greatest number of lines that are drawn of a row, or a list with a number or None for each row. The header has
         no limit. None means no limit. 0 counts as 1.
     limit: the greatest number of rows to draw below the header. If there are more, a line below the table says so. None means no
-        limit. 0 draws only the header.
-    row_lines: True draws lines between rows in each style that has them. False draws none. With None the style decides.
+        limit. 0 draws only the header, and raises ValueError if there is no header.
+    row_lines: True draws lines between rows in each style that has such lines. False draws no lines between rows. With None the
+        style decides.
     expanded: True draws each row as a table of its own. In that table each line has a column's name and the row's value. "auto"
         does so if `width` is too small for all columns.
     markdown: True draws a table for Markdown, whose texts are never wrapped. For a centred column, the line below the header has
@@ -146,8 +150,8 @@ def tabulate(
     color: whether colours and a bold header are written. "auto" writes them if standard output is a terminal, and the environment
         variable NO_COLOR isn't set or is empty. "always" always writes them, and "never" never. Set one of these two if you write
         the drawing to another place than standard output.
-    ansi: True keeps sequences of colours and attributes (SGR) that are in values, wherever the drawing is written. They take no
-        columns.
+    ansi: True keeps sequences of colours and attributes (SGR) that are in values, wherever the drawing is written. Such sequences
+        take no terminal columns.
 
     Some settings don't go together:
         - A table for Markdown and expanded rows can't have `Cell`, `colwidths`, `mincolwidths`, `maxcolwidths`, `padding` or a list
@@ -160,9 +164,9 @@ def tabulate(
     Without `ansi`, control characters are drawn as U+FFFD. TABs are drawn as spaces. Line breaks are kept. A value of bytes in
     UTF-8 is drawn as the text that they encode.
 
-    ValueError is raised if a column is missing, if the header has its name twice, if a setting has an unknown value, or if a text
-    has a lone surrogate. TypeError is raised if rows aren't rows, or if a setting doesn't exist. MemoryError is raised if memory
-    runs out.
+    ValueError is raised if a setting names a column that the table doesn't have, or a name that the header has twice. It is also
+    raised if a setting has an unknown value, if settings don't go together, or if a text has a lone surrogate. TypeError is raised
+    if `rows` has something else than rows, or if a setting doesn't exist. MemoryError is raised if memory runs out.
     """
     for name in others:
         hint = f"; {_INSTEAD[name]}" if name in _INSTEAD else ""
@@ -204,9 +208,9 @@ def tabulate(
 
 
 def _shorten_help() -> None:
-    """Shortens the first line of `help`, which would list all settings.
+    """Gives `tabulate` and `Table` shorter signatures.
 
-    Type checkers read the definitions, and not this signature.
+    Without them, the first line of `help` would list all settings. Type checkers read the definitions, and not these signatures.
     """
     names = {"headers": None, "tablefmt": None, "floatfmt": None}
     kind = inspect.Parameter.POSITIONAL_OR_KEYWORD
@@ -221,8 +225,8 @@ def _shorten_help() -> None:
 class Table:
     """Rows, headers and settings, as `tabulate` takes them.
 
-    Each of them is an attribute, which can be changed. `str` and `repr` draw the table. They raise the errors that `tabulate`
-    raises. A notebook shows the table without colours.
+    The rows, the headers and each setting are attributes, which can be changed. `str` and `repr` draw the table, and raise the
+    errors that `tabulate` raises. A notebook shows the table without colours.
 
     >>> table = Table(headers=["name", "price"], style="ascii")
     >>> table.add_row(["oats", 3])
@@ -271,8 +275,7 @@ class Table:
     def add_row(self, row: object) -> None:
         """Adds a row below the others.
 
-        TypeError is raised if the attribute `rows` isn't a list. A list, a tuple or an iterator that is passed to `Table` becomes a
-        new list.
+        TypeError is raised if the attribute `rows` isn't a list. `Table` copies a list, a tuple or an iterator to a new list.
         """
         if not isinstance(self.rows, list):
             raise TypeError(f"no row can be added to rows of the type {type(self.rows).__name__}; pass a list")
@@ -296,9 +299,10 @@ _shorten_help()
 
 
 class _Contents(NamedTuple):
-    """The texts of the header and the rows, their looks, and the columns.
+    """The texts of a table with their looks, and the columns.
 
-    `looks` has a look for each text. It is empty if no value is a `Cell`.
+    `records` has the header, if there is one, and then the rows. `looks` has a look for each text, or is empty if no value is a
+    `Cell`.
     """
 
     records: list[list[str]]
@@ -356,7 +360,7 @@ def _contents_of(table: Table, values: Values, frame: Frame, has_colors: bool) -
 
 
 def _drawn(contents: _Contents, heights: list[int], settings: RowsSettings) -> str:
-    """Draws a table by the library.
+    """Draws a table by the library, and returns the drawing.
 
     `heights` has the greatest number of lines of each row, or is empty. In Markdown and in expanded rows, the only setting of a
     column is its side.
@@ -424,7 +428,7 @@ def _refuse_settings(table: Table, values: Values, is_markdown: bool) -> None:
 def _looks_of(values: Values, has_colors: bool) -> list[list[Look]]:
     """The looks of all values, with colours if `has_colors` is true.
 
-    The list is empty if no value is a `Cell`.
+    There is a list for the header and for each row. The result is empty if no value is a `Cell`.
     """
     rows = [*([] if values.header is None else [values.header]), *values.rows]
     if not _has_cells(values):

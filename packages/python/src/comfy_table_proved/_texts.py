@@ -37,7 +37,7 @@ class Writer:
     def rows_of(self, rows: list[list[Any]], names: list[str]) -> list[list[str]]:
         """The texts of rows whose columns have these names.
 
-        An empty row gets one empty text, so that there is a column.
+        ValueError is raised if `colors` returns an unknown word. An empty row gets one empty text, so that there is a column.
         """
         if self._floatfmt is not None:
             self._of_floats = {at for row in rows for at, value in enumerate(row) if _is_float(value)}
@@ -105,15 +105,18 @@ def _text(value: object) -> str:
 
 
 def _painted(text: str, words: str | None) -> str:
-    """A text with the sequence of these words before it, and a reset after it.
+    """A text between the SGR sequence of some words and a reset.
 
-    Without words, the text is returned alone.
+    The text is returned alone if `words` is None or empty.
     """
     return f"{sequence_of(words)}{text}{_ESCAPE}[0m" if words else text
 
 
 def _at(setting: Texts, at: int) -> str | None:
-    """The value of a setting for the column at a position, or None."""
+    """The value of a setting for the column at a position.
+
+    The value is None if the setting has none for this column.
+    """
     if setting is None or isinstance(setting, str):
         return setting
     return setting[at] if at < len(setting) else None

@@ -1,6 +1,7 @@
 use crate::csvtable::error::Error;
 
-/// The name or the position of a column. Calls that take a column also take a text or a number.
+/// The name or the position of a column. The methods of [`Rows`](crate::csvtable::Rows) that take columns also take texts, which
+/// are names, and numbers, which are positions.
 ///
 /// ```
 /// use comfy_table_proved::csvtable::{Column, Rows};
@@ -13,9 +14,9 @@ use crate::csvtable::error::Error;
 #[derive(Clone, Debug, PartialEq, Eq)]
 #[non_exhaustive]
 pub enum Column {
-    /// The name in the header.
+    /// The name of the column in the header.
     Name(String),
-    /// The position, counted from 0.
+    /// The position of the column, counted from 0.
     Position(usize),
 }
 
@@ -38,8 +39,8 @@ impl From<usize> for Column {
 }
 
 impl Column {
-    /// Returns the column's position in a table with this header and this number of columns. It is an error if there is no such
-    /// column, or if the header has the name twice.
+    /// Returns the column's position in a table with this header and this number of columns. The error is [`Error::NoColumn`] if
+    /// there is no such column, and [`Error::AmbiguousColumn`] if the header has the name twice.
     pub(crate) fn position(&self, header: &[String], count: usize) -> Result<usize, Error> {
         let name = match self {
             Column::Position(position) if *position < count => return Ok(*position),

@@ -1,7 +1,7 @@
 use crate::library::OutOfMemory;
 use std::fmt;
 
-/// The reason why a call of this module failed.
+/// The reason why a function of the module [`csvtable`](crate::csvtable) failed.
 ///
 /// ```
 /// use comfy_table_proved::csvtable::{Error, Rows, draw_csv};
@@ -13,15 +13,16 @@ use std::fmt;
 #[derive(Clone, Debug, PartialEq, Eq)]
 #[non_exhaustive]
 pub enum Error {
-    /// The input can't be drawn. The text is csvtable's message.
+    /// The input can't be drawn. The `String` is csvtable's message.
     Input(String),
-    /// The arguments are refused, or they ask for csvtable's help or version. The text is csvtable's message, help or version.
+    /// The arguments are refused, or they request csvtable's help or version. The `String` is csvtable's message, help or version.
     Arguments(String),
-    /// The table has no column with this name, or at this position, which is counted from 0.
+    /// The table has no column with this name, or no column at this position, which is counted from 0.
     NoColumn(String),
-    /// The header has this name twice, so the name could mean either column.
+    /// The header has this name more than once, so it isn't clear which column is meant.
     AmbiguousColumn(String),
-    /// The column at this position, counted from 0, would have to be both left-aligned and right-aligned.
+    /// The column at this position, counted from 0, was passed both to [`Rows::left`](crate::csvtable::Rows::left) and to
+    /// [`Rows::right`](crate::csvtable::Rows::right).
     TwoSides(usize),
     /// Memory ran out.
     OutOfMemory,

@@ -1,7 +1,7 @@
 use std::fmt::Display;
 
-/// A row of values. It is an array, a vector or a slice of values with `Display`, or a tuple of one to twelve such values, which
-/// may have different types.
+/// A row of values. The row is an array, a vector or a slice of values with `Display`, or a tuple of one to twelve such values,
+/// which may have different types.
 ///
 /// ```
 /// use comfy_table_proved::csvtable::Rows;
@@ -13,7 +13,7 @@ use std::fmt::Display;
 /// assert_eq!(rows.len(), 3);
 /// ```
 pub trait IntoCells {
-    /// Calls the function `each` for each value, in order.
+    /// Calls `each` for each value of the row, in order.
     fn for_each_cell(self, each: impl FnMut(&dyn Display));
 }
 

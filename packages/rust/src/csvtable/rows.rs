@@ -28,12 +28,12 @@ use std::fmt::{self, Display, Write};
 #[derive(Clone, Copy, Debug, Default, PartialEq, Eq)]
 #[non_exhaustive]
 pub enum Expanded {
-    /// Never.
+    /// Rows are never expanded.
     #[default]
     Never,
-    /// If the table has a width that is too small for its columns.
+    /// Rows are expanded only if the table has a width that is too small for its columns.
     Auto,
-    /// Always.
+    /// Rows are always expanded.
     Always,
 }
 
@@ -42,11 +42,12 @@ const BY_CONTENTS: u32 = 0;
 const LEFT: u32 = 1;
 const RIGHT: u32 = 2;
 
-/// Rows of values, and the settings of their table. Rows may have different lengths.
+/// A table: rows of values, and settings. Rows may have different numbers of values.
 ///
 /// In a cell, control characters are drawn as U+FFFD and TABs as spaces. Line breaks are kept.
 ///
-/// `Display` writes the drawing that [`Rows::draw`] returns, which ends with a line feed. Writing fails if memory runs out.
+/// `Display` writes the drawing that [`Rows::draw`] returns, which ends with a line feed. If memory runs out, `Display` returns an
+/// error, and `to_string` panics.
 ///
 /// ```
 /// use comfy_table_proved::csvtable::{Rows, Style};
@@ -94,7 +95,7 @@ struct Settings {
 }
 
 impl Rows {
-    /// Makes a table with a header and no rows.
+    /// Makes a table with a header and without rows. Each value of `header` is the name of a column.
     ///
     /// ```
     /// use comfy_table_proved::csvtable::Rows;
@@ -117,7 +118,7 @@ impl Rows {
         rows
     }
 
-    /// Makes a table with neither header nor rows. An iterator over rows can also be collected into a table without a header:
+    /// Makes a table without header and rows. An iterator over rows can also be collected into a table without a header:
     ///
     /// ```
     /// use comfy_table_proved::csvtable::Rows;
@@ -159,7 +160,7 @@ impl Rows {
         self.sides.resize(self.sides.len().max(count), BY_CONTENTS);
     }
 
-    /// Adds a row below the others, as [`push`](Rows::push) does, and returns the table.
+    /// Adds a row as [`push`](Rows::push) does, and returns the table.
     pub fn row(mut self, cells: impl IntoCells) -> Rows {
         self.push(cells);
         self
@@ -178,12 +179,13 @@ impl Rows {
         self.texts.counts.len() - usize::from(self.settings.has_header)
     }
 
-    /// Returns true if there are no rows. A header doesn't count.
+    /// Returns true if the table has no rows. A header doesn't count.
     pub fn is_empty(&self) -> bool {
         self.len() == 0
     }
 
-    /// Draws only these columns, in this order. If the list is empty, all columns are drawn.
+    /// Draws only the columns in `columns`, in this order. An empty `columns` draws all columns. Without this call all columns are
+    /// drawn.
     ///
     /// ```
     /// use comfy_table_proved::csvtable::{Rows, Style};
@@ -211,7 +213,7 @@ impl Rows {
         Ok(self)
     }
 
-    /// Right-aligns these columns, even if they don't hold numbers.
+    /// Right-aligns the columns in `columns`, even if they don't hold numbers.
     ///
     /// ```
     /// use comfy_table_proved::csvtable::Rows;
@@ -223,13 +225,13 @@ impl Rows {
     ///
     /// # Errors
     ///
-    /// The errors of [`columns`](Rows::columns), and [`Error::TwoSides`] if [`left`](Rows::left) was called with one of these
-    /// columns. After an error the table no longer exists.
+    /// The errors are those of [`columns`](Rows::columns), and [`Error::TwoSides`] if [`left`](Rows::left) was called with one of
+    /// the columns. After an error the table no longer exists.
     pub fn right<T: Into<Column>>(self, columns: impl IntoIterator<Item = T>) -> Result<Rows, Error> {
         self.aligned(columns, RIGHT)
     }
 
-    /// Left-aligns these columns, even if they hold numbers.
+    /// Left-aligns the columns in `columns`, even if they hold numbers.
     ///
     /// ```
     /// use comfy_table_proved::csvtable::Rows;
@@ -241,14 +243,15 @@ impl Rows {
     ///
     /// # Errors
     ///
-    /// The errors of [`columns`](Rows::columns), and [`Error::TwoSides`] if [`right`](Rows::right) was called with one of these
-    /// columns. After an error the table no longer exists.
+    /// The errors are those of [`columns`](Rows::columns), and [`Error::TwoSides`] if [`right`](Rows::right) was called with one of
+    /// the columns. After an error the table no longer exists.
     pub fn left<T: Into<Column>>(self, columns: impl IntoIterator<Item = T>) -> Result<Rows, Error> {
         self.aligned(columns, LEFT)
     }
 
-    /// Sets the greatest width of the table, in terminal columns. 0 means that there is no limit. Without this call there is no
-    /// limit.
+    /// Sets the greatest width of the table, in terminal columns. 0 means no limit. Without this call there is no limit. The table
+    /// is wider if the width has no room for the frame, the paddings and one terminal column for each column. A table for Markdown
+    /// ignores the width.
     ///
     /// ```
     /// use comfy_table_proved::csvtable::{Rows, Style};
@@ -268,17 +271,19 @@ impl Rows {
         self
     }
 
-    /// Sets the greatest width of the table to the width of the terminal, in terminal columns. This is the value of the
-    /// environment variable `COLUMNS`, if that is a number from 1 to 65535. Otherwise it is the width that the system has for the
-    /// terminal. If the system knows no width, it is 80.
+    /// Sets the greatest width of the table to the width of the terminal, in terminal columns. The width of the terminal is the
+    /// value of the environment variable `COLUMNS`, if this value is a number from 1 to 65535. Otherwise the system gives the
+    /// width. If the system knows no width, the greatest width of the table is 80. The table can be wider, as with
+    /// [`width`](Rows::width).
     #[cfg(feature = "tty")]
     pub fn terminal_width(self) -> Rows {
         let set = env::var("COLUMNS").ok().and_then(|text| text.parse().ok()).filter(|columns| *columns > 0);
         self.width(set.or_else(terminal::columns).unwrap_or(80))
     }
 
-    /// If true, makes the table exactly as wide as the width that [`width`](Rows::width) or `terminal_width` sets. Without a width
-    /// this has no effect.
+    /// Sets whether a table that is narrower than its width is widened to this width, which [`width`](Rows::width) or
+    /// `terminal_width` sets. Without this call the table isn't widened. True has no effect if no width is set, and in a table for
+    /// Markdown.
     ///
     /// ```
     /// use comfy_table_proved::csvtable::Rows;
@@ -291,8 +296,8 @@ impl Rows {
         self
     }
 
-    /// Sets the greatest number of lines that are drawn of each row. The header has no limit. A text with more lines is cut, and
-    /// then ends with `…`. 0 counts as 1. Without this call there is no limit.
+    /// Sets the greatest number of lines that are drawn of each row. A text with more lines is cut, and ends with `…`. The header
+    /// has no limit. 0 counts as 1. Without this call there is no limit. A table for Markdown ignores the limit.
     ///
     /// ```
     /// use comfy_table_proved::csvtable::Rows;
@@ -305,8 +310,8 @@ impl Rows {
         self
     }
 
-    /// Draws only the first `rows` rows. If there are more, a line below the table says so. Without this call all rows are drawn.
-    /// 0 draws only the header; without a header the drawing is then empty.
+    /// Draws only the first `rows` rows. If the table has more rows, a line such as `1 of 3 rows` is below the table. Without this
+    /// call all rows are drawn. 0 draws only the header. Without a header, the drawing is then empty.
     ///
     /// ```
     /// use comfy_table_proved::csvtable::Rows;
@@ -320,14 +325,14 @@ impl Rows {
         self
     }
 
-    /// Sets the frame. Without this call it is [`Style::Rounded`].
+    /// Sets the frame of the table. Without this call the frame is [`Style::Rounded`].
     pub fn style(mut self, style: Style) -> Rows {
         self.style = style;
         self
     }
 
-    /// If true, draws lines between all rows, in each style that has such lines. If false, draws no lines between rows. Without
-    /// this call, the style decides.
+    /// Sets whether lines are drawn between rows. True draws lines between all rows, in each style that has such lines. False draws
+    /// no lines between rows. Without this call, the [`Style`] decides.
     ///
     /// ```
     /// use comfy_table_proved::csvtable::{Rows, Style};
@@ -340,20 +345,23 @@ impl Rows {
         self
     }
 
-    /// Sets the condition for expanding rows. Without this call it is [`Expanded::Never`].
+    /// Sets the condition for expanding rows, which means drawing each row as a table of its own. Without this call, rows aren't
+    /// expanded ([`Expanded::Never`]).
     pub fn expanded(mut self, when: Expanded) -> Rows {
         self.settings.expanded = when;
         self
     }
 
-    /// If true, writes the header in bold. In expanded rows, the names of the columns are bold. Bold is written even if the output
-    /// isn't a terminal. A table for Markdown has no bold header.
+    /// Sets whether the header is written in bold. In expanded rows, the names of the columns are then bold. Bold is written even
+    /// if the output isn't a terminal. Without this call the header isn't bold. A table for Markdown has no bold header.
     pub fn bold_header(mut self, is_bold: bool) -> Rows {
         self.settings.has_bold_header = is_bold;
         self
     }
 
-    /// If true, adds a first column with the name `#`, which numbers the rows from 1.
+    /// Sets whether the table has a first column, `#`, with the number of each row. Rows are counted from 1. Without this call
+    /// there is no such column. Expanded rows don't have this column, because the line above each of them has the number of the
+    /// row.
     ///
     /// ```
     /// use comfy_table_proved::csvtable::{Rows, Style};
@@ -373,7 +381,9 @@ impl Rows {
         self
     }
 
-    /// If true, puts the decimal points of a column of numbers below each other. Without this call they are below each other too.
+    /// Sets whether the decimal points of a column of numbers are put below each other, by spaces after the numbers. Without this
+    /// call they are put below each other. True has no effect in Markdown, in expanded rows, and if the width has no room for the
+    /// spaces.
     ///
     /// ```
     /// use comfy_table_proved::csvtable::Rows;
@@ -389,9 +399,9 @@ impl Rows {
 
     /// Colours the cells of the rows that were added before this call. The header isn't coloured.
     ///
-    /// The function gets the position of the cell's row, the position of its column, and the cell. Both positions count from 0.
-    /// The function returns a cell. The text, the colours and the attributes of the returned cell are drawn in place of those of
-    /// the given cell. Colours and attributes are written even if the output isn't a terminal. A table for Markdown has none.
+    /// `painted` is called with the position of a cell's row, the position of the cell's column, and the cell. Both positions count
+    /// from 0. `painted` returns a cell, whose text, colours and attributes are drawn in place of those of the given cell. Colours
+    /// and attributes are written even if the output isn't a terminal. A table for Markdown has no colours and attributes.
     ///
     /// ```
     /// use comfy_table_proved::Color;
@@ -422,11 +432,11 @@ impl Rows {
         self
     }
 
-    /// Draws the table. The drawing ends with a line feed. It is empty if there are neither header nor rows.
+    /// Draws the table. The drawing ends with a line feed. The drawing is empty if there is neither a header nor a row to draw.
     ///
     /// # Errors
     ///
-    /// [`Error::OutOfMemory`] if memory runs out.
+    /// The only error is [`Error::OutOfMemory`], if memory runs out.
     ///
     /// ```
     /// use comfy_table_proved::csvtable::Rows;
@@ -471,7 +481,7 @@ impl Rows {
         Ok(self)
     }
 
-    // The settings of the table, as numbers of comfy_table.h.
+    // The settings of the table, in the numbers of comfy_table.h.
     fn settings(&self) -> RowsSettings {
         let Settings {
             is_numbered,
@@ -537,7 +547,7 @@ impl Texts {
         self.lengths.push(text.len());
     }
 
-    // Appends the text that each value prints, and its length.
+    // Appends the text that each value prints to `joined`, and the length of this text in bytes to `lengths`.
     fn push_values(&mut self, values: impl IntoCells) {
         let end = cell::Cell::new(self.joined.len());
         let left = cell::Cell::new(Some((values, &mut self.lengths)));

@@ -10,7 +10,7 @@ const PARAMETERS: [&str; 28] = [
 ];
 
 /// Returns the text, with the sequence for the cell's colours and attributes before it, and the sequence that ends them after it.
-/// If the cell has no colour and no attribute, it returns the text alone.
+/// The text is returned alone if the cell has no colour and no attribute.
 pub fn between_sequences(cell: &Cell, text: &str) -> String {
     let foreground = cell.foreground.map(|color| of_color(color, 30));
     let background = cell.background.map(|color| of_color(color, 40));

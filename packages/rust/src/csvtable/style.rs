@@ -15,24 +15,25 @@ use crate::style::{TableStyle, presets};
 #[derive(Clone, Copy, Debug, Default, PartialEq, Eq)]
 #[non_exhaustive]
 pub enum Style {
-    /// Round corners, and lines between rows only if a drawn row has several lines.
+    /// Lines with round corners. Lines between rows are drawn only if a drawn row has several lines.
     #[default]
     Rounded,
-    /// As `Rounded`, but with square corners.
+    /// Lines with square corners. Lines between rows are drawn only if a drawn row has several lines.
     Box,
-    /// As `Rounded`, but with lines between all rows.
+    /// Lines with round corners. Lines are drawn between all rows.
     Grid,
-    /// ASCII, with lines between all rows.
+    /// Lines of ASCII characters. Lines are drawn between all rows.
     Ascii,
-    /// Only spaces.
+    /// No lines: spaces separate the columns.
     Plain,
-    /// A table for Markdown. Its texts are escaped. Whatever the width is, no text is wrapped and no row is expanded.
+    /// The frame of a table for Markdown. In texts, characters with a meaning in Markdown are escaped. No text is wrapped and no
+    /// row is expanded, whatever the width is.
     Markdown,
     /// A preset, made by [`Style::of_preset`].
     Preset(Preset),
 }
 
-/// One of the [`presets`].
+/// One of the [`presets`]. [`Style::of_preset`] makes it, as a [`Style::Preset`].
 #[derive(Clone, Copy, Debug, PartialEq, Eq)]
 pub struct Preset(u32);
 
@@ -40,7 +41,7 @@ pub struct Preset(u32);
 const ROUNDED: u32 = presets::ALL.len() as u32;
 
 impl Style {
-    /// Returns the frame that a preset has, or `None` if the given style isn't one of the [`presets`].
+    /// Returns the frame of a preset, or `None` if `style` isn't one of the [`presets`].
     ///
     /// ```
     /// use comfy_table_proved::csvtable::{Rows, Style};

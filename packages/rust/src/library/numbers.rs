@@ -79,7 +79,7 @@ pub struct ContentLine {
     pub right: u32,
 }
 
-/// The number of a style whose lines are in the field `frame` of the settings.
+/// The number of the style whose lines are in the field `frame` of the settings.
 pub const OWN_STYLE: u32 = u32::MAX;
 
 #[repr(C)]
@@ -118,7 +118,7 @@ pub struct RowsColumn {
 }
 
 impl RowsColumn {
-    /// A column whose texts are at this side, with no other setting.
+    /// A column whose texts are at the side `side` of comfy_table.h, with no other setting.
     pub fn at(side: u32) -> RowsColumn {
         RowsColumn { left_padding: 1, right_padding: 1, side, least: 0, greatest: 0 }
     }

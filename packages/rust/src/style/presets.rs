@@ -46,7 +46,7 @@
 
 use crate::style::{ContentLineStyle, LineStyle, TableStyle};
 
-// A space is written for no character.
+// Returns the character, or `None` for a space, which means no character in the presets below.
 const fn character(character: char) -> Option<char> {
     if character == ' ' { None } else { Some(character) }
 }
@@ -175,8 +175,7 @@ pub const ASCII_HORIZONTAL_ONLY: TableStyle = TableStyle {
     bottom_border: line([' ', '-', '-', ' ']),
 };
 
-/// The lines of a table for Markdown. Texts aren't escaped. A row with more than one line breaks
-/// the table.
+/// The lines of a table for Markdown. Texts aren't escaped. Markdown doesn't read a row with more than one line as one row.
 ///
 /// ```text
 /// | Hello | there |

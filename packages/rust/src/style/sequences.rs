@@ -15,7 +15,7 @@ pub enum Attribute {
     Reset,
     /// Bold. Some terminals show it as a brighter colour.
     Bold,
-    /// Dimmer.
+    /// Dimmer than usual.
     Dim,
     /// Italic.
     Italic,
@@ -35,11 +35,11 @@ pub enum Attribute {
     RapidBlink,
     /// The colours of text and background are exchanged.
     Reverse,
-    /// Not shown.
+    /// The text isn't shown.
     Hidden,
     /// Crossed out.
     CrossedOut,
-    /// In blackletter.
+    /// In blackletter (Fraktur).
     Fraktur,
     /// Ends `Bold`.
     NoBold,
@@ -57,11 +57,11 @@ pub enum Attribute {
     NoHidden,
     /// Ends `CrossedOut`.
     NotCrossedOut,
-    /// In a frame.
+    /// With a frame around the text.
     Framed,
-    /// In a circle.
+    /// With a circle around the text.
     Encircled,
-    /// With a line above.
+    /// With a line above the text.
     OverLined,
     /// Ends `Framed` and `Encircled`.
     NotFramedOrEncircled,
@@ -116,19 +116,19 @@ pub enum Color {
     Grey,
     /// A colour by its parts of red, green and blue, each from 0 to 255.
     Rgb {
-        /// The red part.
+        /// The red part of the colour, from 0 to 255.
         r: u8,
-        /// The green part.
+        /// The green part of the colour, from 0 to 255.
         g: u8,
-        /// The blue part.
+        /// The blue part of the colour, from 0 to 255.
         b: u8,
     },
-    /// The colour with this number, of 256.
+    /// The colour with this number among the 256 colours of a terminal.
     AnsiValue(u8),
 }
 
 impl Color {
-    /// The number of this colour, if it is one of the 256 numbered colours, or else `None`.
+    /// The number of this colour among the 256 numbered colours, or `None` for `Reset` and `Rgb`.
     pub(crate) fn number(self) -> Option<u8> {
         Some(match self {
             Color::Reset | Color::Rgb { .. } => return None,

@@ -1,8 +1,8 @@
 //! The characters of a table's frame.
 
-/// The characters of a horizontal line of the frame. If no character is set, the line isn't drawn. Otherwise a space is drawn for
-/// each character that isn't set. A vertical border for which no line of the [`TableStyle`] has a character isn't drawn, so there
-/// is no space for it either.
+/// The characters of a horizontal line of the frame. A line without characters isn't drawn. In a drawn line, a missing `fill` is
+/// drawn as spaces. A missing `left`, `junction` or `right` is drawn as a space if another line of the [`TableStyle`] has a
+/// character at the same place. Otherwise the place takes no terminal column.
 ///
 /// ```text
 ///   fill    fill
@@ -22,13 +22,13 @@
 /// ```
 #[derive(Clone, Copy, Debug, Default, PartialEq, Eq)]
 pub struct LineStyle {
-    /// The character at the left end.
+    /// The character at the left end. `None` means no character.
     pub left: Option<char>,
-    /// The character that is repeated along each column.
+    /// The character that is repeated along each column. `None` means no character.
     pub fill: Option<char>,
-    /// The character between two columns.
+    /// The character between two columns. `None` means no character.
     pub junction: Option<char>,
-    /// The character at the right end.
+    /// The character at the right end. `None` means no character.
     pub right: Option<char>,
 }
 
@@ -74,8 +74,8 @@ impl LineStyle {
     }
 }
 
-/// The vertical borders of the lines that hold texts. A border that isn't set is a space if another line of the [`TableStyle`] has
-/// a character for it. Otherwise it isn't drawn.
+/// The vertical borders of the lines that hold texts. A missing border is drawn as a space if another line of the [`TableStyle`]
+/// has a character at the same place. Otherwise the place takes no terminal column.
 ///
 /// ```text
 /// │ Hello ┆ there │
@@ -85,16 +85,16 @@ impl LineStyle {
 /// ```
 #[derive(Clone, Copy, Debug, Default, PartialEq, Eq)]
 pub struct ContentLineStyle {
-    /// The character of the left border. `None` sets none.
+    /// The character of the left border. `None` means no character.
     pub left: Option<char>,
-    /// The character of the border between two columns. `None` sets none.
+    /// The character of the border between two columns. `None` means no character.
     pub junction: Option<char>,
-    /// The character of the right border. `None` sets none.
+    /// The character of the right border. `None` means no character.
     pub right: Option<char>,
 }
 
 impl ContentLineStyle {
-    /// Makes borders with all three characters.
+    /// Makes the borders of a line of texts, with all three characters.
     ///
     /// ```
     /// use comfy_table_proved::{ContentLineStyle, presets::UTF8_FULL};
@@ -105,7 +105,7 @@ impl ContentLineStyle {
         ContentLineStyle { left: Some(left), junction: Some(junction), right: Some(right) }
     }
 
-    /// Makes borders without characters.
+    /// Makes the borders of a line of texts, without characters.
     pub const fn none() -> ContentLineStyle {
         ContentLineStyle { left: None, junction: None, right: None }
     }
@@ -116,7 +116,7 @@ impl ContentLineStyle {
         self
     }
 
-    /// Sets the character between two columns.
+    /// Sets the character of the border between two columns.
     pub const fn junction(mut self, character: char) -> ContentLineStyle {
         self.junction = Some(character);
         self
@@ -129,7 +129,7 @@ impl ContentLineStyle {
     }
 }
 
-/// The characters of a table's frame, for each of the six kinds of its lines.
+/// The characters of a table's frame, for each of six kinds of lines.
 ///
 /// ```text
 /// ┌───────┬───────┐  top_border
@@ -141,10 +141,10 @@ impl ContentLineStyle {
 /// └───────┴───────┘  bottom_border
 /// ```
 ///
-/// There are vertical borders at the left, at the right and between columns. Each of these three is drawn if at least one of the
-/// six lines has a character for it. The other lines then have a space there.
+/// There are three vertical borders: at the left, between columns, and at the right. Each border is drawn if at least one of the
+/// six lines has a character for this border. Drawn lines without such a character then have a space there.
 ///
-/// Use one of the [`presets`](crate::presets), change one, or begin with [`TableStyle::new`]:
+/// Use one of the [`presets`](crate::presets), change a preset, or begin with [`TableStyle::new`]:
 ///
 /// ```
 /// use comfy_table_proved::{ContentLineStyle, LineStyle, Table, TableStyle};
@@ -174,7 +174,7 @@ pub struct TableStyle {
 }
 
 impl TableStyle {
-    /// Makes a style without characters. It equals [`NOTHING`](crate::presets::NOTHING).
+    /// Makes a style without characters, which equals [`NOTHING`](crate::presets::NOTHING).
     pub const fn new() -> TableStyle {
         TableStyle {
             top_border: LineStyle::none(),
@@ -235,7 +235,8 @@ impl TableStyle {
         self
     }
 
-    /// Returns this style with round corners in place of its own corners.
+    /// Returns this style with round corners in place of its own corners. A style without a top or bottom border gets one that has
+    /// only the corners.
     ///
     /// ```
     /// use comfy_table_proved::{Table, presets::UTF8_FULL};
@@ -253,7 +254,8 @@ impl TableStyle {
         self
     }
 
-    /// Returns this style with solid lines between columns and between rows, in place of dashed ones.
+    /// Returns this style with solid lines between columns and between rows, in place of dashed lines. The lines consist of box
+    /// drawing characters.
     ///
     /// ```
     /// use comfy_table_proved::{Table, presets::UTF8_FULL};

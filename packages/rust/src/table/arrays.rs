@@ -41,9 +41,9 @@ fn bytes_in(row: &Row) -> usize {
     row.cells.iter().map(|cell| cell.text.len()).sum()
 }
 
-/// Estimates how many bytes the drawing of a table has at most. `width` is in terminal columns, and `None` means no width. If the
-/// estimate is too great, this costs nothing, because the system provides memory only for pages that are written. If it is too
-/// small, the table is drawn a second time.
+/// Estimates how many bytes the drawing of a table has at most. `width` is in terminal columns, and `None` means no width. An
+/// estimate that is too great costs nothing, because the system provides memory only for pages that are written. If the estimate is
+/// too small, the table is drawn a second time.
 ///
 /// For each row, the estimate counts the lines that its texts may take, a line of the frame, and the SGR sequences of its cells.
 /// `longest` is the greatest number of bytes in the texts of a row.
