@@ -36,21 +36,21 @@ pub enum Width {
 pub enum ColumnConstraint {
     /// The column isn't drawn.
     Hidden,
-    /// The column is as wide as its content and its paddings. `DynamicFullWidth` can make the column
-    /// wider.
+    /// The column is as wide as its content and its paddings. `DynamicFullWidth` can make the
+    /// column wider.
     ContentWidth,
     /// The column has this width, including its paddings. If the paddings leave no room, the column
     /// is as wide as its paddings and one terminal column. `DynamicFullWidth` can make the column
     /// wider.
     Absolute(Width),
-    /// The column is at least this wide, including its paddings. The dynamic arrangements can still
-    /// make the column as narrow as its longest line.
+    /// The column is at least this wide, including its paddings. The dynamic arrangements can
+    /// still make the column as narrow as its longest line.
     LowerBoundary(Width),
     /// The column is at most this wide, including its paddings, with two exceptions.
-    /// `DynamicFullWidth` can make the column wider. Under `Disabled`, or if the table's width isn't
-    /// known, the boundary has an effect only if the content without paddings is wider.
+    /// `DynamicFullWidth` can make the column wider. Under `Disabled`, or if the table's width
+    /// isn't known, the boundary has an effect only if the content without paddings is wider.
     UpperBoundary(Width),
-    /// The column is at least as wide as `lower` and at most as wide as `upper`, with the exceptions
-    /// of `LowerBoundary` and `UpperBoundary`.
+    /// The column is at least as wide as `lower` and at most as wide as `upper`, with the
+    /// exceptions of `LowerBoundary` and `UpperBoundary`.
     Boundaries { lower: Width, upper: Width },
 }
