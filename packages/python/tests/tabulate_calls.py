@@ -101,7 +101,7 @@ CALLS = {
         "tabulate([['3.14159']], tablefmt='grid', floatfmt='.2f')",
         "tabulate([['1e5'], ['2.5']], tablefmt='grid')",
     ],
-    "floats are written by `floatfmt`, also if their column has a text": ["tabulate([[2.5], ['n/s']], tablefmt='grid', floatfmt='.2f')"],
+    "floats are written by `floatfmt`, even if their column has a text": ["tabulate([[2.5], ['n/s']], tablefmt='grid', floatfmt='.2f')"],
     "a fraction is as `str` writes it": ["tabulate([[fractions.Fraction(1, 3)]], tablefmt='grid')"],
     "ints are written by `intfmt`": ["tabulate([[1234567]], tablefmt='grid', intfmt=',')"],
     "amounts of money and percentages are numbers": ["tabulate([['$ 3'], ['$ 12.50']], tablefmt='grid')"],
@@ -119,15 +119,15 @@ CALLS = {
     "if other texts have several lines, a row of empty texts is still one line": ["tabulate([['a\\nb'], [''], ['c']], tablefmt='grid')"],
     "texts can have several lines in each format": ["tabulate([['a\\nb', 1]], tablefmt='fancy_outline')"],
     "a column without texts is one terminal column wide": ["tabulate([[None, 1], ['', 2]], tablefmt='simple')"],
-    "in `rst`, None becomes `..` too": ["tabulate([[None, 1], ['b', 2]], tablefmt='rst')"],
+    "in the first column of `rst`, None becomes `..`, as an empty text does": ["tabulate([[None, 1], ['b', 2]], tablefmt='rst')"],
     "numbers at the right have their decimal points below each other": ["tabulate([[1.5], [10.25]], tablefmt='grid', colalign=['right'])"],
     "a dataclass has keys": ["tabulate([Boat('Albatross', 9)], headers='keys', tablefmt='grid')"],
     "there are `left`, `right`, `center` and other settings": [
         "tabulate(FOODS, tablefmt='grid', center=0)",
         "tabulate(FOODS, tablefmt='pretty', left=0)",
     ],
-    "a list of headers that aren't keys is refused for dicts": ["tabulate(GOODS, headers=['Name', 'EUR'])"],
-    "other formats are refused": [
+    "if rows are dicts, a list of headers that aren't keys is refused": ["tabulate(GOODS, headers=['Name', 'EUR'])"],
+    "formats such as `html` and `latex` are refused": [
         *[f"tabulate(FOODS, tablefmt={name!r})" for name in "html unsafehtml latex latex_booktabs mediawiki jira textile tsv".split()],
         "tabulate(FOODS, tablefmt='moinmoin')",
     ],
