@@ -163,9 +163,9 @@ module _ (look : Look) (unkept : look.has_sequences ≡ false) (none : look.is_m
   after : (is_bold is_numbered : Bool) (number : Text) → is_printable_ascii number ≡ true → (sides : List CellAlignment) (fields : List Text) (shown : List Shown) → HoldEach sides fields (cells_for look is_bold shown)
       → HoldEach (sides_after_number is_numbered sides) (row_after_number is_numbered number fields) (cells_for look is_bold (shown_number (if is_numbered then Some number else None) ++ shown))
   unfolding field_at
-  without_leading is_bold true number printable sides fields shown own zero = cell_holds is_bold (Some Right) number number (cleaned-printable false number printable)
-  without_leading is_bold true number printable sides fields shown own (suc i) = own i
-  without_leading is_bold false number printable sides fields shown own i = own i
+  after is_bold true number printable sides fields shown own zero = cell_holds is_bold (Some Right) number number (cleaned-printable false number printable)
+  after is_bold true number printable sides fields shown own (suc i) = own i
+  after is_bold false number printable sides fields shown own i = own i
 
   -- ---- rows of a table
 
