@@ -35,19 +35,20 @@ pub(crate) const CONTENT_WIDTHS: u32 = 2;
 ///
 /// `texts` has the texts of all cells in their order, without anything between them. `cells` has
 /// the length and the settings of each text, `rows` the number of cells of each row, and `columns`
-/// the settings of each column. A cell that has no column isn't drawn. `indicator` is drawn at the
-/// end of a text that the greatest height of its row cuts.
+/// the settings of each column. A cell that has no column isn't drawn. `indicator` is the
+/// truncation indicator, which is drawn at the end of a text that the greatest height of its row
+/// cuts.
 ///
 /// | Returned | Meaning | `needed` |
 /// |---|---|---|
 /// | 0 | the drawing is at the front of the buffer | its length in bytes |
 /// | 1 | the buffer is too small | the length of the drawing in bytes |
-/// | 2 | lengths and counts add up, but a text or the indicator isn't UTF-8 | unchanged |
+/// | 2 | lengths and counts add up, but a text or `indicator` isn't UTF-8 | unchanged |
 /// | 3 | memory ran out | unchanged |
 /// | 4 | `form`, `style` or `arrangement` has no meaning | unchanged |
 /// | 5 | lengths don't add up to all texts, or counts don't add up to all cells | unchanged |
 ///
-/// Settings are checked first, then lengths and counts, and last the texts and the indicator.
+/// Settings are checked first, then lengths and counts, and last the texts and `indicator`.
 ///
 /// With 1 to 5 the buffer is unchanged. With 0 it is unchanged after the drawing.
 #[unsafe(no_mangle)]

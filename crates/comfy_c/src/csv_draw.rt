@@ -23,7 +23,10 @@ use std::alloc::Global;
 /// | 1 | the buffer is too small | nothing |
 /// | 2 | the input can't be drawn with these arguments | the message of `csvtable` |
 /// | 3 | memory ran out | nothing |
-/// | 4 | the arguments request no drawing | the text of `csvtable`, such as help and version |
+/// | 4 | the arguments are refused, or request help or the version | the text of `csvtable` |
+///
+/// For example, 2 is returned if an argument names a column that the input doesn't have. With 4 the
+/// text is a message on the refused argument, or else the help or the version.
 ///
 /// With 0 and 1, `needed` is set to the length of the drawing in bytes. With 2 and 4 it is set to
 /// the length of the message or text in bytes, and with 3 it is unchanged.

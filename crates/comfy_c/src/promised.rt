@@ -63,19 +63,21 @@ pub fn drawn_cells(
 ///
 /// - If no greatest height is set, all drawn texts are shown, each in its row and column. Control
 ///   characters of the texts are replaced. If not all rows are drawn, a line counts the rows.
-/// - All lines show the same number of terminal columns, except lines that count rows. This holds
-///   if each character takes at most one terminal column, and none is U+FE01. It also holds if no
-///   width and no greatest height is set, and each text is at most 65535 terminal columns wide. No
-///   text may then have a control character, or a character that turns the direction of text. Last,
-///   it holds if each character has room in its column. Characters of at most two terminal columns,
-///   other than U+FE01 and U+FE0E, have room if the width is at least 1 + 5 n. Here n is 2 if rows
-///   are always drawn as tables of their own, or if they may be and a row is drawn. Otherwise n is
-///   the number of drawn columns, including that of row numbers.
+/// - All lines show the same number of terminal columns, except lines that count rows. This promise
+///   holds if each character takes at most one terminal column, and none is U+FE01. The promise
+///   also holds if no width and no greatest height is set, and each text is at most 65535 terminal
+///   columns wide. No text may then have a control character, or a character that turns the
+///   direction of text. Last, the promise holds if each character has room in its column.
+///   Characters of at most two terminal columns, other than U+FE01 and U+FE0E, have room if the
+///   width is at least 1 + 5 n. Here n is 2 if rows are always drawn as tables of their own, or if
+///   they may be and a row is drawn. Otherwise n is the number of drawn columns, including that of
+///   row numbers.
 /// - If a width is set, no line except lines that count rows shows more terminal columns than the
-///   width, or than 1 + 4 n if that is greater. This holds if each character takes at most one
-///   terminal column, and none is U+FE01. It also holds if each character takes at most two, none
-///   is U+FE01 or U+FE0E, and the width is at least 1 + 5 n. If the width is filled and has room
-///   for the frame, each of these lines shows exactly as many terminal columns as the width.
+///   width, or than 1 + 4 n if that is greater. This promise holds if each character takes at most
+///   one terminal column, and none is U+FE01. The promise also holds if each character takes at
+///   most two, none is U+FE01 or U+FE0E, and the width is at least 1 + 5 n. If the width is filled
+///   and has room for the frame, each of these lines shows exactly as many terminal columns as the
+///   width.
 ///
 /// The promises on the visible text and in the list hold if there are no looks and no heights.
 /// Columns may then be hidden or have a left or right side, but must have no other settings. With

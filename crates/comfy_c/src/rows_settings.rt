@@ -24,8 +24,8 @@ pub struct RowsSettings {
     /// The width of the table in terminal columns. Texts are wrapped so that the table isn't wider,
     /// if this width has room for its columns. A number above 65535 sets no width.
     pub width: u32,
-    /// A flag: a table that is narrower than `width` is widened to `width`. The flag has no effect
-    /// if no width is set.
+    /// A flag: the table is made as wide as `width`, even if its texts need less. The flag has no
+    /// effect if no width is set, and in a table for Markdown.
     pub fills_width: u32,
     /// The rule for the style's lines between rows: 0 draws them always, 1 only if a drawn row has
     /// more than one line, 2 never.
@@ -41,14 +41,18 @@ pub struct RowsSettings {
     /// Rows that are drawn as tables of their own don't have this column: the line above each of
     /// them, such as `row 1 of 2`, has the number.
     pub is_numbered: u32,
-    /// A flag: the decimal points of a column of numbers are put below each other, if the width has
-    /// room for the spaces that this takes.
+    /// A flag: the decimal points of a column of numbers are put below each other, by spaces after
+    /// the column's texts. The flag has no effect in Markdown, in expanded rows (each row is a
+    /// table of its own), and if the width has no room for these spaces.
     pub aligns_decimals: u32,
     /// A flag: SGR sequences in texts are written as they are, and take no terminal columns. If the
     /// flag isn't set, the ESC of each sequence is drawn as U+FFFD.
     pub has_sequences: u32,
-    /// A flag: the table is for Markdown. Settings that Markdown can't have, such as `style`,
-    /// `width` and `max_height`, then have no effect.
+    /// A flag: the table is for Markdown. `max_height`, `style`, `width`, `fills_width`,
+    /// `row_lines`, `expansion`, `has_bold_header`, `aligns_decimals`, `has_sequences` and `frame`
+    /// then have no effect. However, a number without a meaning in `style`, `row_lines` or
+    /// `expansion` is still refused. `comfy_rows_draw` also refuses looks, heights, centred
+    /// columns, and columns with a width or with paddings other than 1.
     pub is_markdown: u32,
     /// The caller's own frame, which is drawn if `style` is `u32::MAX`. Otherwise this field has no
     /// effect.

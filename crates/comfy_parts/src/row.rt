@@ -92,8 +92,9 @@ impl Row {
         Ok(RowReference { row: self })
     }
 
-    /// Appends a cell. After `OutOfMemory` the row is unchanged and the cell is dropped, as with
-    /// `add_cell`. Only the contract of `try_add_cell` gives this fact to a proof of your own.
+    /// Appends a cell as `add_cell` does, but doesn't return the row. The only error is
+    /// `OutOfMemory`. After it the row is unchanged and the cell is dropped. A proof of your own
+    /// can use this fact only if it calls `try_add_cell`, and not `add_cell`.
     pub fn try_add_cell(&mut self, cell: Cell) -> Result<()>
         ensures ok { OnOk result (self.new ≡ with_cell cell self.old) }
         ensures err { OnErr result (self.new ≡ self.old) }

@@ -69,9 +69,10 @@ pub fn lines_are_found_in_their_texts()
     ensures terminated { (lines : List Text) → TerminatedLinesAreFound lines }
 {}
 
-/// Shown texts, style and indicator have no ESC if they have no control character, because ESC is a
-/// control character. Therefore the lines without their SGR sequences are the drawing without
-/// colours and attributes: see the field `sequences.without_sequences` of `IsTableDrawing`.
+/// Shown texts, style and truncation indicator have no ESC if they have no control character,
+/// because ESC is a control character. Therefore the lines without their SGR sequences are the
+/// drawing without colours and attributes: see the field `sequences.without_sequences` of
+/// `IsTableDrawing`.
 pub fn tables_without_controls_have_no_escape()
     ensures { (table : TableValue) → IsFreeOfControls table → IsFreeOfEscapes table }
 {}

@@ -50,7 +50,7 @@ pub struct Table {
     pub(crate) style: TableStyle,
     pub(crate) arrangement: ContentArrangement,
     pub(crate) delimiter: Option<char>,
-    // `None` for the indicator of a new table, `…` (U+2026)
+    // `None` for the truncation indicator of a new table, `…` (U+2026)
     pub(crate) indicator: Option<String>,
     pub(crate) set_width: Option<u16>,
     pub(crate) terminal: Terminal,
@@ -167,10 +167,9 @@ impl Table {
         into_reference(self.with_row_added(row))
     }
 
-    /// Replaces the header. Then appends columns with default settings until the table has at least
-    /// as many columns as the header has cells. After `OutOfMemory` the table is unchanged and the
-    /// new header is dropped, as with `set_header`. Only the contract of `try_set_header` gives
-    /// this fact to a proof of your own.
+    /// Replaces the header as `set_header` does, but doesn't return the table. The only error is
+    /// `OutOfMemory`. After it the table is unchanged and the new header is dropped. A proof of
+    /// your own can use this fact only if it calls `try_set_header`, and not `set_header`.
     pub fn try_set_header<T: IntoRow>(&mut self, row: T) -> Result<()>
         ensures ok { OnOk result (self.new ≡ with_header (T.row_of row) self.old) }
         ensures err { OnErr result (self.new ≡ self.old) }
@@ -181,10 +180,9 @@ impl Table {
         Ok(())
     }
 
-    /// Appends a row. Then appends columns with default settings until the table has at least as
-    /// many columns as the row has cells. After `OutOfMemory` the table is unchanged and the row is
-    /// dropped, as with `add_row`. Only the contract of `try_add_row` gives this fact to a proof of
-    /// your own.
+    /// Appends a row as `add_row` does, but doesn't return the table. The only error is
+    /// `OutOfMemory`. After it the table is unchanged and the row is dropped. A proof of your own
+    /// can use this fact only if it calls `try_add_row`, and not `add_row`.
     pub fn try_add_row<T: IntoRow>(&mut self, row: T) -> Result<()>
         ensures ok { OnOk result (self.new ≡ with_row (T.row_of row) self.old) }
         ensures err { OnErr result (self.new ≡ self.old) }

@@ -24,11 +24,11 @@ const NOT_A_TERMINAL: OutputContext<'static> = OutputContext {
 /// The reason why `render_csv` returns no drawing.
 #[derive(Debug, Drop)]
 pub enum Refusal {
-    /// The arguments request no drawing. The text is the message that `csvtable` writes instead of
-    /// a drawing. Help and the version are such messages.
+    /// The arguments are refused, or they request the help or the version of `csvtable`. The text
+    /// is the message on the refused argument, the help, or the version.
     Arguments(String),
-    /// The input can't be drawn as the arguments request. The text is the line that `csvtable`
-    /// writes on standard error.
+    /// The input can't be drawn as the arguments request, for example if an argument names a column
+    /// that the input doesn't have. The text is the line that `csvtable` writes on standard error.
     Input(String),
     /// Memory ran out.
     OutOfMemory,

@@ -18,8 +18,8 @@ use std::alloc::Global;
 /// the output may have any sequence for colours and attributes, but none is open at the end of a
 /// line.
 ///
-/// Returns `None` if the arguments request no drawing, if the input can't be drawn, if the output
-/// has more than `room` bytes, or if memory runs out.
+/// Returns `None` if the arguments are refused, or request help or the version. Also returns `None`
+/// if the input can't be drawn, if the output has more than `room` bytes, or if memory runs out.
 pub fn harmless_output(
     alloc: Global,
     arguments: &[&str],
@@ -38,8 +38,8 @@ pub fn harmless_output(
 /// the drawing without sequences for colours and attributes. Line feeds are the only control
 /// characters of the visible text, and no character of it turns the direction of text.
 ///
-/// Returns `None` if the arguments request no drawing, if the input can't be drawn, or if memory
-/// runs out.
+/// Returns `None` if the arguments are refused, or request help or the version. Also returns `None`
+/// if the input can't be drawn, or if memory runs out.
 pub fn harmless_drawing(alloc: Global, arguments: &[&str], input: &[u8]) -> Option<String>
     ensures { IfSome result (λ drawing. ShowsNothingHarmful (string_bytes drawing)) }
 {
@@ -51,8 +51,8 @@ pub fn harmless_drawing(alloc: Global, arguments: &[&str], input: &[u8]) -> Opti
 /// has a single control character: the line feed at its end. No character of the line turns the
 /// direction of text.
 ///
-/// Returns `None` if the input can be drawn, if the arguments request no drawing, or if memory runs
-/// out.
+/// Returns `None` if the input can be drawn, or if memory runs out. Also returns `None` if the
+/// arguments are refused, or request help or the version.
 pub fn harmless_message(alloc: Global, arguments: &[&str], input: &[u8]) -> Option<String>
     ensures { IfSome result (λ message. IsTameLine (string_bytes message)) }
 {

@@ -21,24 +21,25 @@ use std::alloc::Global;
 /// names of expanded records. If not all records are drawn, a line below the table counts the
 /// records.
 ///
-/// A column is right-aligned if each of its drawn fields is a number or neutral, such as `n/a`, and
-/// at least one is a number. The options `--right` and `--left` override this rule. In a
+/// A column is right-aligned if each of its drawn fields is a number or neutral, and at least one
+/// is a number. A field is neutral (`csv_records::is_neutral`) if it is empty, a dash, two points,
+/// or a word such as `n/a`. The options `--right` and `--left` override this rule. In a
 /// right-aligned column with a decimal mark, spaces after shorter fractions put the marks below
 /// each other, unless `--no-decimal` is given. These spaces may be left out if a width is set. The
 /// fields of expanded records are left-aligned.
 ///
 /// Under `--expanded auto`, fields of columns of numbers and dates aren't split over lines, if
-/// records aren't expanded. In a column of numbers and dates each field is neutral, a number or
-/// date of at most 25 characters, or a time stamp of at most 35. The column is at least as wide as
-/// its widest field. The column of record numbers is at least as wide as its widest number. If no
-/// width is set, every column is at least as wide as its widest text, including the header, even if
-/// records are expanded. A text of more than 65535 terminal columns counts as a text of 65535. In
-/// an expanded record a number or date isn't split if the width has room for it beside borders,
-/// paddings and four terminal columns for names.
+/// records aren't expanded. In a column of numbers and dates each field is a number, a date or
+/// neutral, with at most 25 characters. A field may also be a time stamp of at most 35. The column
+/// is at least as wide as its widest field. The column of record numbers is at least as wide as its
+/// widest number. If no width is set, every column is at least as wide as its widest text,
+/// including the header, even if records are expanded. A text of more than 65535 terminal columns
+/// counts as a text of 65535. In an expanded record a number or date isn't split if the width has
+/// room for it beside borders, paddings and four terminal columns for names.
 ///
-/// Returns `None` if the arguments request `--ansi`, Markdown, a greatest height or no drawing.
-/// Also returns `None` if the whole input can't be read or drawn, if the output has more than
-/// `room` bytes, or if memory runs out.
+/// Returns `None` if the arguments are refused, or request `--ansi`, Markdown, a greatest height,
+/// help or the version. Also returns `None` if the whole input can't be read or drawn, if the
+/// output has more than `room` bytes, or if memory runs out.
 pub fn output_with_all_fields(
     alloc: Global,
     arguments: &[&str],

@@ -19,9 +19,11 @@ use std::alloc::Global;
 /// header, and if records are expanded, which means that each is a table of its own.
 ///
 /// The promise requires that each character of each field takes at most one terminal column, and
-/// that no character is U+FE01. Returns `None` if the arguments request `--ansi`, Markdown or no
-/// drawing. Also returns `None` if the whole input can't be read or drawn, if the output has more
-/// than `room` bytes, or if memory runs out.
+/// that no character is U+FE01.
+///
+/// Returns `None` if the arguments are refused, or request `--ansi`, Markdown, help or the version.
+/// Also returns `None` if the whole input can't be read or drawn, if the output has more than
+/// `room` bytes, or if memory runs out.
 pub fn straight_output(
     alloc: Global,
     arguments: &[&str],

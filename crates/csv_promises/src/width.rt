@@ -19,9 +19,11 @@ use std::alloc::Global;
 ///
 /// The promise requires that each character of each field takes at most one terminal column, and
 /// that no character is U+FE01. The promise also holds if each character takes at most two terminal
-/// columns, no character is U+FE01 or U+FE0E, and the width is at least 1 + 5 n. Returns `None` if
-/// the arguments request `--ansi`, Markdown or no drawing. Also returns `None` if the whole input
-/// can't be read or drawn, if the output has more than `room` bytes, or if memory runs out.
+/// columns, no character is U+FE01 or U+FE0E, and the width is at least 1 + 5 n.
+///
+/// Returns `None` if the arguments are refused, or request `--ansi`, Markdown, help or the version.
+/// Also returns `None` if the whole input can't be read or drawn, if the output has more than
+/// `room` bytes, or if memory runs out.
 pub fn output_within(
     alloc: Global,
     arguments: &[&str],

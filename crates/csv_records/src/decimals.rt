@@ -165,7 +165,8 @@ impl ColumnMarks {
     }
 }
 
-// True for a number that ends with a digit and has no exponent, and for a neutral field.
+// True for a number that ends with a digit and has no exponent, and for a neutral field
+// (`is_neutral`).
 fn is_plain(field: &str, number: FieldNumber) -> bool
     ensures { number ≡ number_of field.now → result ≡ is_plain field.now }
 {

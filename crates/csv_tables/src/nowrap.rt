@@ -585,16 +585,17 @@ fn set_content(column: &mut Column, content: u16)
     column.set_constraint(ColumnConstraint::Absolute(Width::Fixed(content + 2)));
 }
 
-/// Returns true if a field isn't broken over lines: it is a time stamp, or it is short (`is_short`)
-/// and is a number, a date, a time or neutral.
+/// Returns true if a field isn't broken over lines. Such a field is a time stamp (`is_stamp`), or
+/// is short (`is_short`) and is a number, a date, a time or neutral (`csv_records::is_neutral`),
+/// such as `n/a`.
 pub(crate) fn is_nowrap(field: &str) -> bool
     ensures { result ≡ is_nowrap field.now }
 {
     is_short_value(field) || is_stamp(field.as_bytes())
 }
 
-// Returns true if a field is short, and is a number, neutral, or made of the characters of dates
-// and times.
+// Returns true if a field is short, and is a number, neutral (`csv_records::is_neutral`), or made
+// of the characters of dates and times.
 fn is_short_value(field: &str) -> bool
     ensures { result ≡ is_short_value field.now }
 {
@@ -628,7 +629,7 @@ fn is_of_stamps(byte: u8) -> bool
     is_of_dates(byte) || matches!(byte, b'U' | b'C' | b'A' | b'P' | b'M')
 }
 
-// Returns true for a number, and for a field that is neutral in a column of numbers.
+// Returns true for a number, and for a neutral field (`csv_records::is_neutral`).
 fn is_numeric(field: &str) -> bool
     ensures { result ≡ is_number field.now || is_neutral field.now }
 {

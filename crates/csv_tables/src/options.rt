@@ -101,8 +101,9 @@ pub struct ColumnPlan {
     /// marks can be put below each other. `None` if the column isn't right-aligned, or has no
     /// decimal mark.
     pub points: Option<Points>,
-    /// True if each drawn field of the column has at most 25 characters, and is a number, a date, a
-    /// time, or neutral, such as `n/a`. A time stamp may have up to 35 characters. Such fields
-    /// aren't broken over lines if the width has room for them.
+    /// True if each drawn field of the column is a number, a date or a time of at most 25
+    /// characters, or a time stamp of at most 35. A field of at most 25 characters may also be
+    /// neutral (`csv_records::is_neutral`): empty, a dash, or a word such as `n/a`. Fields of such
+    /// a column aren't broken over lines if the width has room for them.
     pub is_nowrap: bool,
 }

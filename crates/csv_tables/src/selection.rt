@@ -82,8 +82,9 @@ impl Selection {
         count_of(&self.names(records), &self.rows(records))
     }
 
-    /// The number of columns of `records` up to the last one that has a name or a drawn field that
-    /// isn't empty. The number is at least 1, or 0 if there are no columns.
+    /// The number of columns of `records` without the empty columns at the end. A column is empty
+    /// if its name and all its drawn fields are empty or missing. The result is at least 1, unless
+    /// `column_count` is 0.
     pub fn filled_columns(&self, records: &Rows<'_>) -> usize
         ensures { result ≡ filled_columns self.now records.now }
     {

@@ -23,10 +23,12 @@ pub(crate) struct ColumnSummary {
     /// is a number, else `Neutral`.
     pub(crate) kind: FieldKind,
     /// The summary of decimal marks, from which the decimal mark of the column follows. `None`
-    /// unless each field is narrow (`is_narrow`), and is a plain number or neutral.
+    /// unless each field is narrow (`is_narrow`), and is either neutral (`csv_records::is_neutral`)
+    /// or a number that ends with a digit and has no exponent.
     pub(crate) marks: Option<ColumnMarks>,
-    /// True if no field is to be broken over lines (`is_nowrap`): each field is a short number,
-    /// date or time, a time stamp, or neutral.
+    /// True if no field is to be broken over lines (`is_nowrap`). Each field is then a short
+    /// number, date or time, a time stamp, or short and neutral (`csv_records::is_neutral`), such
+    /// as `n/a`.
     pub(crate) are_nowrap: bool,
 }
 
@@ -82,7 +84,7 @@ impl ColumnSummary {
         }
     }
 
-    // Adds a field, if a field before it is neither a number nor neutral.
+    // Adds a field, if a field before it is neither a number nor neutral (`is_neutral`).
     fn add_other(&mut self, field: &str)
         ensures { is_other_kind self.old.kind ≡ true → (fields : List (List ℕ))
             → self.old ≡ summary_of fields → self.new ≡ summary_of (fields ++ field.now ∷ []) }
@@ -192,8 +194,8 @@ fn widen(summaries: &mut Vec<ColumnSummary>, position: usize) -> Result<(), Allo
 
 // ---- one field more
 
-// Returns true if a field isn't broken over lines. A number or a neutral field only has to be
-// short, or a time stamp.
+// Returns true if a field isn't broken over lines. A number or a neutral field (`is_neutral`) only
+// has to be short, or a time stamp.
 fn is_nowrap_of(kind: FieldKind, field: &str) -> bool
     ensures { kind ≡ kind_of field.now → result ≡ is_nowrap field.now }
 {
@@ -228,7 +230,7 @@ fn kind_of(field: &str, number: FieldNumber) -> FieldKind
 }
 
 // Adds a field to the decimal marks of its column, as long as each field is narrow, and is a number
-// or neutral. Otherwise there are no marks any more.
+// or neutral (`is_neutral`). Otherwise there are no marks any more.
 fn add_marks(marks: &mut Option<ColumnMarks>, field: &str, number: FieldNumber)
     ensures { number ≡ number_of field.now → (fields : List (List ℕ))
         → marks.old ≡ narrow_marks fields → marks.new ≡ narrow_marks (fields ++ field.now ∷ []) }

@@ -12,14 +12,14 @@ use comfy_table::{Lines, Result, Table};
 /// `OutOfMemory`.
 ///
 /// With `custom_styling`, the text of a cell counts without its SGR sequences. The lines may have
-/// these sequences between the characters of the text. The sequences that are open before a visible
-/// byte of a line are those that are active at this byte in the cell. This holds unless the row has
-/// a `max_height`. No line leaves a sequence open, if only texts of cells have sequences.
+/// these sequences between the characters of the text. In a row without a `max_height`, the
+/// sequences that are open before a visible byte of a line are those that are active at this byte
+/// in the cell. No line leaves a sequence open, if only texts of cells have sequences.
 ///
 /// A text line that fits its column is drawn as one line, even if it is empty. Any other text line
 /// is wrapped, and loses only delimiters. If it has only delimiters, no line is drawn for it. If
 /// `max_height` cuts a cell, only a beginning of its last line is drawn, followed by the truncation
-/// indicator. An indicator that is wider than the column isn't drawn. Under `Disabled`, or if no
+/// indicator. This indicator isn't drawn if it is wider than the column. Under `Disabled`, or if no
 /// width is known, a column without a constraint is as wide as its widest text.
 ///
 /// Let W be the width that was set, or else the terminal's width, and let no column have a
@@ -34,8 +34,8 @@ use comfy_table::{Lines, Result, Table};
 /// Let F be the number of characters of borders and paddings, plus one for each shown column. Under
 /// `Dynamic` a frame line has at most max(W, F) characters. Under `DynamicFullWidth` a frame line
 /// has exactly max(W, F) characters, if a column is shown. Let texts and delimiters be printable
-/// ASCII, and let each character of an indicator that is drawn add one terminal column. Then the
-/// lines of rows have as many characters as frame lines, not counting SGR sequences.
+/// ASCII. If the truncation indicator is drawn, let each of its characters add one terminal column.
+/// Then the lines of rows have as many characters as frame lines, not counting SGR sequences.
 pub fn headline(table: &Table) -> Result<Lines>
     ensures drawing { IfOk result (λ lines. IsHeadline table.now lines) }
     ensures characters { IfOk result (λ lines. All IsUtf8 lines) }

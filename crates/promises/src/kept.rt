@@ -5,10 +5,12 @@ ghost use Rattle.promises.specs.Kept.{ShowAllTexts, ShowWholeTexts};
 
 use comfy_table::{Lines, Result, Table};
 
-/// The drawn lines of a table, which have all texts of shown columns, each in its own row and
-/// column. Each text is unchanged, or in slices that leave out only the characters at which it may
-/// break. This holds for each row without a `max_height`, if `custom_styling` is off. The only
-/// error is `OutOfMemory`.
+/// The drawn lines of a table. The only error is `OutOfMemory`. All promises of this function
+/// require that `custom_styling` is off.
+///
+/// The lines have all texts of shown columns in rows without a `max_height`, each text in its own
+/// row and column. Each of these texts is unchanged, or in slices that leave out only the
+/// characters at which the text may break.
 ///
 /// The lines are the top border, the header with the line below it, the rows with separators
 /// between them, and the bottom border. A row has as many lines as its highest cell. Each line of a
@@ -22,13 +24,16 @@ pub fn lines_with_all_texts(table: &Table) -> Result<Lines>
     table.lines()
 }
 
-/// The drawn lines of a table, which have all texts of shown columns unchanged. Each text line,
-/// which is a part of a text between line feeds, is in a line of its own, in its row and column.
-/// Frame lines, borders and spaces are as in `lines_with_all_texts`. The only error is
-/// `OutOfMemory`.
+/// The drawn lines of a table. The only error is `OutOfMemory`.
 ///
-/// This holds under `Disabled`, if no shown column has a constraint, no row has a `max_height`, no
-/// text line takes more than 65535 terminal columns, and `custom_styling` is off.
+/// The lines have all texts of shown columns unchanged under these conditions:
+///
+/// - The arrangement is `Disabled`, and no shown column has a constraint.
+/// - No row has a `max_height`, and no text line takes more than 65535 terminal columns.
+/// - `custom_styling` is off.
+///
+/// Each text line, which is the text between two line feeds, is then in a line of its own, in its
+/// row and column. Frame lines, borders and spaces are as in `lines_with_all_texts`.
 pub fn lines_with_whole_texts(table: &Table) -> Result<Lines>
     ensures { IfOk result (λ lines. ShowWholeTexts table.now lines) }
 {

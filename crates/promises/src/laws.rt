@@ -54,8 +54,8 @@ pub fn numbers_are_printable()
 {}
 
 /// The frame of a table is plain (`HasPlainFrame`) under two conditions. The table has the columns,
-/// delimiters and indicator of a new table, and each character of its style adds one terminal
-/// column. New columns have no constraint.
+/// delimiters and truncation indicator of a new table, and each character of its style adds one
+/// terminal column. New columns have no constraint.
 pub fn new_frames_are_plain()
     ensures { (table : TableValue) → HasNewFrame table → HasPlainFrame table }
 {}

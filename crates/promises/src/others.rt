@@ -20,13 +20,15 @@ pub fn lines_of_both(table: &Table, other: &Table) -> Result<(Lines, Lines)>
 }
 
 /// Draws a table, appends `row` to the table, and draws the table again. Returns the lines of both
-/// drawings in this order. The second drawing has all lines of the first one, and the lines of the
-/// new row are directly above the bottom border. After `OutOfMemory` the table is unchanged or has
-/// the new row.
+/// drawings in this order. The only error is `OutOfMemory`, after which the table is unchanged or
+/// has the new row.
 ///
-/// This holds under `Disabled`, if `custom_styling` is off and the row has at most as many cells as
-/// there are columns. Each cell of the row must be in the same column as a cell of the table that
-/// is at least as wide.
+/// The second drawing has all lines of the first one, and the new lines are directly above the
+/// bottom border, under these conditions:
+///
+/// - The arrangement is `Disabled`, and `custom_styling` is off.
+/// - The row has at most as many cells as there are columns. Each of its cells is in the same
+///   column as a cell of the table that is at least as wide.
 pub fn lines_before_and_after(table: &mut Table, row: Row) -> Result<(Lines, Lines)>
     ensures { IfOk result (λ drawn. StayWithRow table.old row drawn.0 drawn.1) }
 {

@@ -98,8 +98,8 @@ fn are_all(counts: &[usize], wanted: usize) -> bool {
     counts.iter().all(|count| *count == wanted)
 }
 
-// returns true if a row's height cut a line; with an indicator of the sample's own, true if it may
-// have cut one
+// returns true if a row's height cut a line; with a truncation indicator of the sample's own, true
+// if it may have cut one
 fn is_cut(sample: &Sample, drawing: &Drawing) -> bool {
     if sample.has_own_indicator {
         sample.contents.is_limited

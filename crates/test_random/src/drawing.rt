@@ -18,7 +18,7 @@ pub struct Drawing {
     pub frame_counts: Vec<usize>,
     /// The number of visible characters of each line of a row.
     pub row_counts: Vec<usize>,
-    /// True if a line of a row has the indicator `…`, which marks a cut text.
+    /// True if a line of a row has the truncation indicator `…`.
     pub has_indicator: bool,
     /// True if the piece of a cell in some line leaves an SGR sequence open.
     pub leaves_open: bool,

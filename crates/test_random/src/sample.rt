@@ -21,7 +21,7 @@ pub struct Sample {
     /// The kind of the texts in the rows, and facts about the rows. If texts have SGR sequences,
     /// the table has `custom_styling`.
     pub contents: Contents,
-    /// True if the table has another indicator than `…`, which marks cut texts in a new table.
+    /// True if the table has another truncation indicator than `…`, which a new table has.
     pub has_own_indicator: bool,
     // the random numbers from which the sample was made
     numbers: Pcg32,

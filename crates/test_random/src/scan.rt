@@ -4,7 +4,7 @@
 use comfy_table::Result;
 use std::alloc::Global;
 
-/// The character at the end of a cut text, unless the table has an indicator of its own.
+/// The truncation indicator of a new table: the character at the end of a cut text.
 pub const INDICATOR: char = '…';
 
 /// Reads one or several texts, and has the result.

@@ -132,7 +132,7 @@ fn allowed<'a, T>(all: &'a [T], plain: usize, kind: Kind) -> &'a [T] {
     }
 }
 
-/// Returns a random indicator of cut texts, other than that of a new table.
+/// Returns a random truncation indicator, other than that of a new table.
 pub fn indicator(rng: &mut Pcg32) -> &'static str {
     one_of(rng, &INDICATORS, "")
 }

@@ -25,9 +25,10 @@
 //!
 //! # What tables can do
 //!
-//! - **Width**: [`Table::set_width`] sets the width of a table. Without this call it is the width of the terminal. With
-//!   [`ContentArrangement::Dynamic`], long texts are wrapped so that the table isn't wider than its width, if its columns can be
-//!   narrow enough for that. [`ContentArrangement::DynamicFullWidth`] also widens a narrower table to its width.
+//! - **Width**: [`Table::set_width`] sets the width of a table. Without this call it is the width of the terminal. It isn't known
+//!   if the output isn't a terminal, or if the feature `tty` is off. With [`ContentArrangement::Dynamic`], long texts are wrapped
+//!   so that the table isn't wider than this width, if its columns can be narrow enough for that.
+//!   [`ContentArrangement::DynamicFullWidth`] also makes the table as wide as this width if its texts need less.
 //! - **Columns**: a [`ColumnConstraint`] fixes or limits the width of a [`Column`], or hides the column. Each column has its own
 //!   padding, which is the free space beside its texts.
 //! - **Alignment** of texts, for a column or for one [`Cell`]: [`CellAlignment`].

@@ -73,9 +73,9 @@ pub struct CellTable {
     pub columns: Vec<Column>,
 }
 
-/// Draws a table of cells. The only error is that memory runs out, because the lengths and counts of this package's tables add up,
-/// and all their settings are in comfy_table.h. `room` is the number of bytes that are allocated for the drawing. The table is
-/// drawn a second time if the drawing has more bytes.
+/// Draws a table of cells. `indicator` is the truncation indicator. `room` is the number of bytes that are allocated for the
+/// drawing. If the drawing has more bytes, the table is drawn a second time. The only error is that memory runs out: the library
+/// refuses only lengths, counts, texts and settings that this package never passes.
 pub fn draw_cells(table: &CellTable, indicator: &str, settings: &CellsSettings, room: usize) -> Result<String, OutOfMemory> {
     let (status, drawing) = written(room, |output, room, needed| {
         // SAFETY: each pointer and length belongs to a slice or a vector that is borrowed for the call, or to the room for the
@@ -113,8 +113,8 @@ pub struct Texts {
     pub counts: Vec<usize>,
 }
 
-/// Draws rows of texts. `columns` has the settings of each column that a row has. The only error is that memory runs out, as in
-/// `draw_cells`.
+/// Draws rows of texts. `columns` has the settings of each column that a row has. The only error is that memory runs out: the
+/// library refuses only lengths, counts, texts and settings that this package never passes.
 pub fn draw_rows(texts: &Texts, columns: &[RowsColumn], settings: &RowsSettings) -> Result<String, OutOfMemory> {
     let room = room_for(texts.joined.len() + 8 * texts.lengths.len());
     let (status, drawing) = written(room, |output, room, needed| {

@@ -31,8 +31,8 @@ pub enum CellAlignment {
 /// [`Table::set_constraints`](crate::Table::set_constraints) sets the constraints of several columns, and
 /// [`Column::set_constraint`](crate::Column::set_constraint) the constraint of one column.
 ///
-/// [`ContentArrangement::DynamicFullWidth`] widens all columns of a table that is narrower than its width, even columns with a
-/// constraint.
+/// If the columns need less than the table's width, [`ContentArrangement::DynamicFullWidth`] widens all of them, even columns with
+/// a constraint.
 #[derive(Clone, Copy, Debug, PartialEq, Eq)]
 pub enum ColumnConstraint {
     /// The column isn't drawn.
@@ -158,7 +158,7 @@ pub enum Width {
 ///
 /// [`Table::set_content_arrangement`](crate::Table::set_content_arrangement) sets this rule.
 /// [`Table::set_width`](crate::Table::set_width) sets the table's width. Without that call, the table's width is that of the
-/// terminal.
+/// terminal. It isn't known if the output isn't a terminal, or if the feature `tty` is off.
 #[derive(Clone, Debug)]
 pub enum ContentArrangement {
     /// Each column is as wide as its widest text, unless it has a constraint. No text is wrapped to fit the table's width. A new
@@ -190,8 +190,8 @@ pub enum ContentArrangement {
     /// +----+-------------+");
     /// ```
     Dynamic,
-    /// Texts are wrapped as under `Dynamic`, and a narrower table is widened to its width. `DynamicFullWidth` does the same as
-    /// `Disabled` if the table's width isn't known.
+    /// Texts are wrapped as under `Dynamic`. If the columns then need less than the table's width, they are widened until the
+    /// table has this width. `DynamicFullWidth` does the same as `Disabled` if the table's width isn't known.
     ///
     /// ```
     /// use comfy_table_proved::{ContentArrangement, Table};

@@ -528,15 +528,15 @@ impl Table {
         self.arrangement.clone()
     }
 
-    /// Sets the width of the table, in terminal columns. Without this call it is the width of the terminal. There is no width if
-    /// the output isn't a terminal, or if the feature `tty` is off.
+    /// Sets the width of the table, in terminal columns. Without this call it is the width of the terminal. It isn't known if the
+    /// output isn't a terminal, or if the feature `tty` is off.
     ///
     /// The [`ContentArrangement`] decides what the width does:
     ///
     /// - [`Dynamic`](ContentArrangement::Dynamic): texts are wrapped so that the table isn't wider than this width, if its columns
     ///   can be narrow enough for that.
-    /// - [`DynamicFullWidth`](ContentArrangement::DynamicFullWidth): texts are wrapped as under `Dynamic`, and a narrower table is
-    ///   widened to this width.
+    /// - [`DynamicFullWidth`](ContentArrangement::DynamicFullWidth): texts are wrapped as under `Dynamic`, and the table is made as
+    ///   wide as this width, even if its texts need less.
     /// - [`Disabled`](ContentArrangement::Disabled), which a new table has: no text is wrapped to fit the table. Only a
     ///   [`Width::Percentage`](crate::Width::Percentage) depends on the width.
     ///
@@ -613,7 +613,7 @@ impl Table {
 
     /// Sets the truncation indicator. If [`Row::max_height`] cuts the text of a cell, the last drawn line of the text ends with the
     /// indicator. If the column has no room for the indicator after this line, the indicator replaces the last characters of the
-    /// line. An indicator that is wider than its column isn't drawn. In a new table the indicator is `…`.
+    /// line. The indicator isn't drawn if it is wider than the column. In a new table the indicator is `…`.
     ///
     /// ```
     /// use comfy_table_proved::{Row, Table};

@@ -19,9 +19,9 @@
 pub enum ContentArrangement {
     /// Each column is as wide as its content, unless its constraint fixes or limits the width.
     Disabled,
-    /// Contents are wrapped so that the table isn't wider than its width, if its columns can be
-    /// narrow enough for that. Each column has at least one terminal column, and constraints can
-    /// require more. If no width is known, `Dynamic` does the same as `Disabled`.
+    /// Contents are wrapped so that the table isn't wider than its width (`Table::width`), if its
+    /// columns can be narrow enough for that. Each column has at least one terminal column, and
+    /// constraints can require more. If no width is known, `Dynamic` does the same as `Disabled`.
     Dynamic,
     /// Contents are wrapped as under `Dynamic`, and the table fills its width. Terminal columns
     /// that are left over after each column has a width are divided evenly among all shown columns,

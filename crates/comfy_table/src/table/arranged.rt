@@ -180,7 +180,7 @@ fn infos_of<C: TableSource>(contents: &C) -> Result<Vec<ColumnDisplayInfo>>
     let table = contents.table();
     look_at_columns(table.columns.as_slice());
     look_at_header(&table.header);
-    // Proof only: reading the indicator shows that it is UTF-8.
+    // Proof only: reading the truncation indicator shows that it is UTF-8.
     let _ = &table.indicator;
     let infos = arrange(contents)?;
     Ok(infos)

@@ -17,7 +17,7 @@ use std::vec;
 ///
 /// With `custom_styling`, no line leaves an SGR sequence open under three conditions. Each cell
 /// with a colour of its own also has an attribute, if colours are written. Neither the style nor
-/// the indicator has ESC. Each shown column has a padding on its right.
+/// the truncation indicator has ESC. Each shown column has a padding on its right.
 ///
 /// ```
 /// let top = table.lines()?.next();
@@ -59,26 +59,30 @@ impl Iterator for Lines {
 }
 
 impl Table {
-    /// The drawn lines of the table as it is now, from the top. The only error is `OutOfMemory`.
+    /// The drawn lines of the table as it is now, from the top. The lines are the frame lines and
+    /// the lines of the rows, in the order in which they are printed. The only error is
+    /// `OutOfMemory`.
     ///
-    /// The lines are the frame lines and the lines of the rows, in the order in which they are
-    /// printed. Without colours, attributes and `custom_styling`, all lines of a straight table
-    /// take the same number of terminal columns, for texts of every script. `IsStraightTable` has
-    /// the conditions under which a table is straight. In any preset, a table that is as wide as
-    /// its texts meets these conditions, if its columns have the paddings of new columns. A table
-    /// is printable (`IsPrintableTable`) if texts and delimiters are printable ASCII, and if each
-    /// character of an indicator that is drawn adds one terminal column. Without colours,
-    /// attributes and `custom_styling`, all lines of a printable table have the same number of
-    /// characters.
+    /// Without colours, attributes and `custom_styling`, all lines of a straight table
+    /// (`IsStraightTable`) take the same number of terminal columns, for texts of every script. In
+    /// any preset, a table whose columns have the paddings of new columns is straight if it is as
+    /// wide as its texts (`IsShownWhole`). This means that it keeps to no width, no shown column
+    /// has a constraint, no row has a `max_height`, and no text line takes more than 65535 terminal
+    /// columns.
     ///
-    /// Let W be the table's width, if it is known. Let F be the number of characters of borders and
-    /// paddings in a line, plus one for each shown column. For a column whose width is fixed by its
-    /// constraint or decided by its lower boundary, F counts this width without paddings instead of
-    /// one. Under `ContentArrangement::Dynamic` a frame line has at most max(W, F) characters,
-    /// whatever the texts are. Under `DynamicFullWidth` a frame line has exactly max(W, F)
-    /// characters, if a column is shown. Without colours, attributes and `custom_styling`, this
-    /// also holds for the other lines: in a printable table for their characters, and in a straight
-    /// table for their terminal columns.
+    /// Likewise, all lines of a printable table (`IsPrintableTable`) have the same number of
+    /// characters. A table is printable if its texts and delimiters are printable ASCII. If the
+    /// truncation indicator is drawn, each of its characters must also add one terminal column.
+    ///
+    /// The next bounds are for a table whose width (`Table::width`) is known. Let W be this width.
+    /// Let F be the number of characters that borders and paddings take in a line, plus one for
+    /// each shown column. For a column whose constraint fixes its width, or that gets just its
+    /// lower boundary, F counts this width without paddings instead of one.
+    ///
+    /// Under `ContentArrangement::Dynamic` a frame line has at most max(W, F) characters. Under
+    /// `DynamicFullWidth` it has exactly max(W, F), if a column is shown. Without colours,
+    /// attributes and `custom_styling`, the lines of rows keep the same bounds. The bounds count
+    /// characters in a printable table, and terminal columns in a straight table.
     ///
     /// ```
     /// let mut table = Table::new(alloc);

@@ -33,12 +33,13 @@ pub struct TableParts {
     pub set_width: Option<u16>,
     /// Facts about the terminal, such as its width; `Terminal::UNKNOWN` if nothing is known.
     pub terminal: Terminal,
-    /// True if the table is drawn as if its output weren't a terminal, whatever facts `terminal`
-    /// has.
+    /// True if the table ignores the facts in `terminal`: `Table::is_tty` is false then. See
+    /// `Table::force_no_tty`.
     pub no_tty: bool,
-    /// True if the table is printed to standard error, and false for standard output.
+    /// True if the fact `stderr_is_tty` of `terminal` counts, and false if `stdout_is_tty` counts.
+    /// See `Table::use_stderr`.
     pub use_stderr: bool,
-    /// True if colours and attributes are written even if the output isn't a terminal.
+    /// True if colours and attributes are written even if `Table::is_tty` is false.
     pub enforce_styling: bool,
     /// True if colours and attributes surround only the texts of cells, without paddings and
     /// spaces.

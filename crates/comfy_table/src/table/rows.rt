@@ -129,10 +129,10 @@ impl Table {
 
     /// Calls `predicate` once, with the number of rows in the table and the new row. If `predicate`
     /// returns true, `try_add_row_if` appends the row as `try_add_row` does. If `predicate` returns
-    /// false, the table is unchanged and the row is dropped. `OutOfMemory` is possible only if
-    /// `predicate` returned true. After this error the table is unchanged and the row is dropped,
-    /// as with `add_row_if`. Only the contract of `try_add_row_if` gives this fact to a proof of
-    /// your own.
+    /// false, the table is unchanged and the row is dropped. The only error is `OutOfMemory`, which
+    /// is possible only if `predicate` returned true. After it the table is unchanged and the row
+    /// is dropped. A proof of your own can use this fact only if it calls `try_add_row_if`, and not
+    /// `add_row_if`.
     pub fn try_add_row_if<P, T>(&mut self, predicate: P, row: T) -> Result<()>
     where
         P: Fn(usize, &T) -> bool + Drop,

@@ -51,7 +51,7 @@ impl Table {
     }
 
     /// Sets the truncation indicator: the text that follows a line that `Row::max_height` cuts. A
-    /// new table has `…`. In a column that is narrower than the indicator, no indicator is drawn.
+    /// new table has `…`. The indicator isn't drawn if it is wider than the column.
     /// Returns the table for further calls. After `OutOfMemory` the table is unchanged. To use this
     /// fact in a proof of your own, call `try_set_truncation_indicator` instead.
     pub fn set_truncation_indicator(&mut self, indicator: &str) -> Result<&mut Self>
@@ -64,9 +64,10 @@ impl Table {
         into_reference(self.with_indicator_set(indicator))
     }
 
-    /// Sets the truncation indicator: the text that follows a line that `Row::max_height` cuts.
-    /// After `OutOfMemory` the table is unchanged, as with `set_truncation_indicator`. Only the
-    /// contract of `try_set_truncation_indicator` gives this fact to a proof of your own.
+    /// Sets the truncation indicator as `set_truncation_indicator` does, but doesn't return the
+    /// table. The only error is `OutOfMemory`. After it the table is unchanged. A proof of your own
+    /// can use this fact only if it calls `try_set_truncation_indicator`, and not
+    /// `set_truncation_indicator`.
     pub fn try_set_truncation_indicator(&mut self, indicator: &str) -> Result<()>
         ensures ok { OnOk result (self.new ≡ record self.old { indicator = indicator.now }) }
         ensures err { OnErr result (self.new ≡ self.old) }

@@ -5,9 +5,9 @@ ghost use Rattle.comfy_table.specs.TableValue.{is_tty, should_style, table_width
 
 use crate::table::Table;
 
-/// Facts about a terminal, as the caller found them. After `Table::set_terminal`, a table writes
-/// colours and attributes if its output is a terminal. A table without a width of its own then
-/// takes the terminal's width.
+/// Facts about a terminal, as the caller found them. `Table::set_terminal` gives them to a table.
+/// If `Table::is_tty` is then true, the table writes colours and attributes. If it also has no
+/// width of its own, it takes the terminal's width.
 ///
 /// A program finds these facts as follows, if the shell exports the width in `COLUMNS`. Interactive
 /// shells don't export it: a line like `alias program='COLUMNS=$COLUMNS program'` in the shell's
@@ -57,9 +57,8 @@ impl Table {
         self
     }
 
-    /// Makes the table treat its output as no terminal, whatever facts `set_terminal` sets. The
-    /// terminal's width isn't used. Colours and attributes are written only after
-    /// `enforce_styling`.
+    /// Makes `is_tty` return false, whatever facts `set_terminal` sets. The terminal's width isn't
+    /// used. Colours and attributes are written only after `enforce_styling`.
     pub fn force_no_tty(&mut self) -> &mut Self
         ensures same_reference { result.ghost_name ≡ self.entry.ghost_name }
         ensures value { result.now ≡ record self.old { no_tty = true } }
@@ -68,8 +67,9 @@ impl Table {
         self
     }
 
-    /// Makes standard error the output of the table. Without this call the output is standard
-    /// output. Only the facts about this output decide whether the table is printed to a terminal.
+    /// Makes `is_tty` return the fact `stderr_is_tty` of `set_terminal`. Without this call `is_tty`
+    /// returns the fact `stdout_is_tty`. Call this function if you print the drawing to standard
+    /// error: the table itself prints nothing.
     pub fn use_stderr(&mut self) -> &mut Self
         ensures same_reference { result.ghost_name ≡ self.entry.ghost_name }
         ensures value { result.now ≡ record self.old { use_stderr = true } }
@@ -78,8 +78,8 @@ impl Table {
         self
     }
 
-    /// Makes the table write colours and attributes even if its output isn't a terminal, but a file
-    /// or the input of another program.
+    /// Makes the table write colours and attributes even if `is_tty` is false. It is false, for
+    /// example, if the output is a file or the input of another program.
     pub fn enforce_styling(&mut self) -> &mut Self
         ensures same_reference { result.ghost_name ≡ self.entry.ghost_name }
         ensures value { result.now ≡ record self.old { enforce_styling = true } }
@@ -96,8 +96,8 @@ impl Table {
         self.style_text_only = true;
     }
 
-    /// The width of the table in terminal columns: the width that was set, or else the terminal's
-    /// width if the output is a terminal. Otherwise `None`.
+    /// The width of the table in terminal columns: the width that `set_width` has set, or else the
+    /// terminal's width (`Terminal::width`) if `is_tty` is true. Otherwise `None`.
     pub fn width(&self) -> Option<u16>
         ensures { result ≡ table_width self.now }
     {
@@ -111,8 +111,9 @@ impl Table {
         }
     }
 
-    /// Returns true if the output is a terminal, according to the facts of `set_terminal`. After
-    /// `force_no_tty` the result is always false. Each call evaluates the facts again.
+    /// Returns true if standard output, or standard error after `use_stderr`, is a terminal by the
+    /// facts of `set_terminal`. After `force_no_tty` the result is always false. The result follows
+    /// later changes of the facts.
     pub fn is_tty(&self) -> bool
         ensures { result ≡ is_tty self.now }
     {
@@ -126,8 +127,8 @@ impl Table {
         }
     }
 
-    /// Returns true if colours and attributes are written: after `enforce_styling`, or if the
-    /// output is a terminal.
+    /// Returns true if colours and attributes are written: after `enforce_styling`, or if `is_tty`
+    /// is true.
     pub fn should_style(&self) -> bool
         ensures { result ≡ should_style self.now }
     {

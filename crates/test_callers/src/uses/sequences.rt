@@ -38,7 +38,7 @@ pub fn drawn_with_sequences(table: &mut Table) -> Result<Lines>
 
 /// Draws a table, with colours or without. Its lines without SGR sequences are equally wide if the
 /// table is straight over any widths of columns (`IsStraightTable`), and neither its texts nor its
-/// indicator and style have ESC.
+/// truncation indicator and style have ESC.
 pub fn drawn_in_colour(table: &Table) -> Result<Lines>
     ensures { IfOk result (λ lines. IsFreeOfEscapes table.now
         → ((widths : List ℕ) → IsStraightTable table.now widths)

@@ -281,9 +281,8 @@ impl Rows {
         self.width(set.or_else(terminal::columns).unwrap_or(80))
     }
 
-    /// Sets whether a table that is narrower than its width is widened to this width, which [`width`](Rows::width) or
-    /// `terminal_width` sets. Without this call the table isn't widened. True has no effect if no width is set, and in a table for
-    /// Markdown.
+    /// Sets whether the table is made as wide as the width that [`width`](Rows::width) or `terminal_width` sets, even if its texts
+    /// need less. Without this call it isn't. True has no effect if no width is set, and in a table for Markdown.
     ///
     /// ```
     /// use comfy_table_proved::csvtable::Rows;

@@ -35,8 +35,8 @@ const MOST_LINES: usize = 8;
 pub struct Line<'a> {
     columns: usize,
     text: CowStr<'a>,
-    // written directly after `text`: the indicator if the line is cut, or the spaces after the text
-    // of a `TextCell`, or nothing
+    // written directly after `text`: the truncation indicator if the line is cut, or the spaces
+    // after the text of a `TextCell`, or nothing
     end: &'a str,
 }
 
@@ -66,8 +66,8 @@ impl<'a> Line<'a> {
     }
 
     /// The width of the line in terminal columns, and the two texts that are written for the line:
-    /// the first text, and directly after it the second. The second text may be empty: it is the
-    /// indicator of a line that is cut, or spaces.
+    /// the first text, and directly after it the second. The second text is the truncation
+    /// indicator if the line is cut, or spaces, or empty.
     #[inline(always)]
     pub fn parts(&self) -> (usize, &str, &str)
         ensures { record {
@@ -531,8 +531,8 @@ fn closed_line<'a>(table: &Table, measured: &Line, info: &ColumnDisplayInfo) -> 
     })
 }
 
-// The head of a line, which leaves room for the indicator in the column, and the indicator. The
-// indicator is empty if it is wider than the column.
+// The head of a line, and the truncation indicator. The head leaves room for the indicator in the
+// column. The indicator is empty if it is wider than the column.
 fn cut_text<'a>(table: &'a Table, line: &'a str, info: &ColumnDisplayInfo) -> (&'a str, &'a str)
     ensures { result.0.now ++ result.1.now
         ≡ cut_text info.now.content_width table.now.indicator line.now }
@@ -577,7 +577,7 @@ fn joined(alloc: Global, text: &str, end: &str) -> Result<String>
     Ok(joined)
 }
 
-// The indicator, or an empty text if the indicator is wider than the column.
+// The truncation indicator, or an empty text if the indicator is wider than the column.
 fn fitting_indicator(indicator: &str, columns: usize) -> &str
     ensures { result.now ≡ fitting_indicator columns indicator.now }
 {

@@ -1,4 +1,4 @@
-//! The frame lines and borders that all parts of a table have in common.
+//! The frame lines of an arranged table, and the borders in the lines of its rows.
 
 ghost use Rattle.std.specs.Prelude.{◌≡◌, IfOk};
 ghost use Rattle.comfy_table.specs.Drawing.{outer_widths};
@@ -13,8 +13,8 @@ use comfy_parts::content_split::ColumnDisplayInfo;
 use std::marker::Model;
 
 /// The top border, the row separator and the bottom border, and the gaps (`Gap`) in the lines of
-/// rows. A frame line that isn't drawn is `None`. The frame lines and gaps are made once for all
-/// parts of a table.
+/// rows. A frame line that isn't drawn is `None`. The frame lines and gaps are made once for an
+/// `ArrangedTable`, even if its rows are drawn in several parts (`PartEnds`).
 #[derive(Drop)]
 pub struct FrameLines {
     pub top: Option<String>,
