@@ -70,8 +70,8 @@ impl Row {
     }
 
     /// Appends a cell, and returns the row for further calls. After `OutOfMemory` the row is
-    /// unchanged and the cell is dropped. To use this fact in a proof of your own, call
-    /// `try_add_cell` instead.
+    /// unchanged and the cell is dropped. If a proof of your own needs that the row is unchanged,
+    /// call `try_add_cell` instead.
     pub fn add_cell(&mut self, cell: Cell) -> Result<&mut Self>
         ensures* err { sem 𝓛 (RowStaysIfErr self.entry result) }
         ensures same_reference { IfOk result (λ row. row.ghost_name ≡ self.entry.ghost_name) }
@@ -93,8 +93,8 @@ impl Row {
     }
 
     /// Appends a cell as `add_cell` does, but doesn't return the row. The only error is
-    /// `OutOfMemory`. After it the row is unchanged and the cell is dropped. A proof of your own
-    /// can use this fact only if it calls `try_add_cell`, and not `add_cell`.
+    /// `OutOfMemory`. After it the row is unchanged and the cell is dropped. If a proof of your own
+    /// needs that the row is unchanged, call `try_add_cell` and not `add_cell`.
     pub fn try_add_cell(&mut self, cell: Cell) -> Result<()>
         ensures ok { OnOk result (self.new ≡ with_cell cell self.old) }
         ensures err { OnErr result (self.new ≡ self.old) }

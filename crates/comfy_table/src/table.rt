@@ -135,8 +135,8 @@ impl Table {
 
     /// Replaces the header. Then appends columns with default settings until the table has at least
     /// as many columns as the header has cells. Returns the table for further calls. After
-    /// `OutOfMemory` the table is unchanged and the new header is dropped. To use this fact in a
-    /// proof of your own, call `try_set_header` instead.
+    /// `OutOfMemory` the table is unchanged and the new header is dropped. If a proof of your own
+    /// needs that the table is unchanged, call `try_set_header` instead.
     ///
     /// ```
     /// table
@@ -153,8 +153,8 @@ impl Table {
 
     /// Appends a row. Then appends columns with default settings until the table has at least as
     /// many columns as the row has cells. Returns the table for further calls. After `OutOfMemory`
-    /// the table is unchanged and the row is dropped. To use this fact in a proof of your own, call
-    /// `try_add_row` instead.
+    /// the table is unchanged and the row is dropped. If a proof of your own needs that the table
+    /// is unchanged, call `try_add_row` instead.
     ///
     /// ```
     /// table.add_row(["17", "dock 3"])?.add_row((18u32, "rented"))?;
@@ -168,8 +168,8 @@ impl Table {
     }
 
     /// Replaces the header as `set_header` does, but doesn't return the table. The only error is
-    /// `OutOfMemory`. After it the table is unchanged and the new header is dropped. A proof of
-    /// your own can use this fact only if it calls `try_set_header`, and not `set_header`.
+    /// `OutOfMemory`. After it the table is unchanged and the new header is dropped. If a proof of
+    /// your own needs that the table is unchanged, call `try_set_header` and not `set_header`.
     pub fn try_set_header<T: IntoRow>(&mut self, row: T) -> Result<()>
         ensures ok { OnOk result (self.new ≡ with_header (T.row_of row) self.old) }
         ensures err { OnErr result (self.new ≡ self.old) }
@@ -181,8 +181,8 @@ impl Table {
     }
 
     /// Appends a row as `add_row` does, but doesn't return the table. The only error is
-    /// `OutOfMemory`. After it the table is unchanged and the row is dropped. A proof of your own
-    /// can use this fact only if it calls `try_add_row`, and not `add_row`.
+    /// `OutOfMemory`. After it the table is unchanged and the row is dropped. If a proof of your
+    /// own needs that the table is unchanged, call `try_add_row` and not `add_row`.
     pub fn try_add_row<T: IntoRow>(&mut self, row: T) -> Result<()>
         ensures ok { OnOk result (self.new ≡ with_row (T.row_of row) self.old) }
         ensures err { OnErr result (self.new ≡ self.old) }

@@ -42,9 +42,10 @@ impl From<AllocError> for Refusal {
     }
 }
 
-/// Returns the output of `csvtable` for `arguments` with the option `--count`, and for an input of
-/// the bytes `input`. The first argument is the program's name. The output goes to no terminal, and
-/// the environment has neither `COLUMNS` nor `NO_COLOR`.
+/// Returns what `csvtable` writes to standard output for `arguments` and an input of the bytes
+/// `input`. The first argument is the program's name. The option `--count` counts as given: if
+/// `--limit` leaves out records, the last line has the number of all records. Standard output
+/// counts as no terminal, and neither `COLUMNS` nor `NO_COLOR` counts as set.
 ///
 /// No file is opened. An argument for a file names the input in messages, and the extension of this
 /// name may set the delimiter. The error is the reason why there is no drawing (`Refusal`).

@@ -141,9 +141,10 @@ impl ColumnMarks {
         self.comma.add(field, number.comma, DecimalMark::Comma);
     }
 
-    /// The decimal mark of the column, and the length of its longest fraction. At least one field
-    /// needs this mark, all fields can be read with it, and no field needs the other mark. `None`
-    /// if there is no such mark, or if `are_plain` is false.
+    /// The decimal mark of the column, and the length of its longest fraction. In the summary of
+    /// this mark (`MarkSummary`), `is_needed` and `is_readable` are true. In the summary of the
+    /// other mark, `is_needed` is false. The result is `None` if there is no such mark, or if
+    /// `are_plain` is false.
     pub fn points(self) -> Option<Points>
         ensures { result ≡ points_for self }
     {

@@ -37,10 +37,11 @@ pub fn read_records(
     Ok(read_first_records(alloc, text, options, usize::MAX)?.records)
 }
 
-/// Returns the first `most` records of `text`, or all if there are fewer. The result also has the
-/// number of all records of the text. It has a report on those of the first `most` records that
-/// have more fields than the first record, except for `Delimiter::Spaces`. The whole text is read,
-/// and the errors are those of `read_records`.
+/// Returns the first `most` records of `text`, or all if there are fewer, and the number of all
+/// records of the text. `text` is a text that `decoded` returned for the same `options`. The field
+/// `longer` of the result reports the returned records that have more fields than the first one. It
+/// is `None` if there are none, and always for `Delimiter::Spaces`. The whole text is read, and the
+/// errors are those of `read_records`.
 pub fn read_first_records(
     alloc: Global,
     text: &str,

@@ -48,8 +48,9 @@ impl Model for LazyTable {
 }
 
 impl LazyTable {
-    /// Makes the table of `rows`, and measures the content of each column. The table's style keeps
-    /// its lines between rows. The only error is `OutOfMemory`.
+    /// Makes the table of `rows` with the style of their look, and measures the content of each
+    /// column. The rule `Look::separators` isn't applied yet: the style still has its lines between
+    /// rows. The only error is `OutOfMemory`.
     pub fn new(rows: RecordRows) -> Result<LazyTable>
         ensures table { IfOk result (λ contents. contents.table ≡ table_by rows) }
         ensures rows { IfOk result (λ contents. contents.rows ≡ rows) }

@@ -14,8 +14,9 @@ ghost use Rattle.promises.specs.Promises.{KeepsPromises};
 ghost use Rattle.promises.specs.Rows.{IsNarrowCell, KeepsRows, table_of};
 ghost use Rattle.promises.specs.Tables.{HasPlainFrame};
 
-/// The drawn lines of a table keep all promises of this crate on the lines of one table
-/// (`KeepsPromises`). With this law a caller's proof can use several promises on the same drawing.
+/// The drawn lines of a table keep every promise of this crate that is about a single drawing
+/// (`KeepsPromises`). The promises of the module `others` are about two drawings. With this law a
+/// caller's proof can use several promises on the same drawing.
 pub fn drawings_keep_the_promises()
     ensures { (table : TableValue) (lines : List Text) → IsTableDrawing table lines
         → KeepsPromises table lines }

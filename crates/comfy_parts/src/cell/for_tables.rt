@@ -74,11 +74,11 @@ pub fn needs_no_rewrite(text: &str) -> bool
 /// The texts that are written for the lines of the cell after a call of `Table::custom_styling`,
 /// from the top.
 ///
-/// The ends of the lines depend only on the text lines without their colour sequences. These texts
-/// break at `delimiter` and are wrapped for the content width of `info`. A colour sequence is open
-/// until the next `ESC[0m`, also in later text lines. The text of a line begins with the sequences
-/// that are open at its start. Then it has the line's characters with the sequences between them.
-/// It ends with `ESC[0m` if a sequence is then open. The only error is `OutOfMemory`.
+/// Colour sequences don't change where lines end: the visible text of each text line breaks at
+/// `delimiter`, and is wrapped for the content width of `info`. A written text begins with the
+/// sequences that are open at the start of its line. Then it has the line's characters with the
+/// sequences between them, and `ESC[0m` if a sequence is open at the end. A sequence is open until
+/// the next `ESC[0m`, even in later text lines. The only error is `OutOfMemory`.
 pub fn written_lines(cell: &Cell, info: &ColumnDisplayInfo, delimiter: char) -> Result<Vec<String>>
     ensures { IfOk result (λ texts. map string_bytes texts.items
         ≡ map (λ (line : CellLine). line.written)

@@ -132,8 +132,9 @@ impl Table {
     }
 
     /// The drawn lines, each followed by a line feed, ready to print. The only error is
-    /// `OutOfMemory`. If neither the style nor the truncation indicator has a line feed, the lines
-    /// are the texts before the line feeds.
+    /// `OutOfMemory`. If neither the style nor the truncation indicator has a line feed, splitting
+    /// the text at line feeds gives the lines, and an empty text after them, by the law
+    /// `laws::lines_are_found_in_their_texts`.
     pub fn to_terminated_text(&self) -> Result<String>
         ensures { IfOk result (λ text. TerminatesLines self.now (string_bytes text)) }
     {

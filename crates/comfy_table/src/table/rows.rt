@@ -131,8 +131,8 @@ impl Table {
     /// returns true, `try_add_row_if` appends the row as `try_add_row` does. If `predicate` returns
     /// false, the table is unchanged and the row is dropped. The only error is `OutOfMemory`, which
     /// is possible only if `predicate` returned true. After it the table is unchanged and the row
-    /// is dropped. A proof of your own can use this fact only if it calls `try_add_row_if`, and not
-    /// `add_row_if`.
+    /// is dropped. If a proof of your own needs that the table is unchanged, call `try_add_row_if`
+    /// and not `add_row_if`.
     pub fn try_add_row_if<P, T>(&mut self, predicate: P, row: T) -> Result<()>
     where
         P: Fn(usize, &T) -> bool + Drop,
