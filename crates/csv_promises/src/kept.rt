@@ -22,8 +22,8 @@ use std::alloc::Global;
 /// records.
 ///
 /// A column is right-aligned if each of its drawn fields is a number or neutral, and at least one
-/// is a number. A field is neutral (`csv_records::is_neutral`) if it is empty, a dash, two points,
-/// or a word such as `n/a`. The options `--right` and `--left` override this rule. In a
+/// is a number. A field is neutral (`csv_records::is_neutral`) if it is empty, or is `-`, `–`, `—`
+/// or `..`, or is a word such as `n/a`. The options `--right` and `--left` override this rule. In a
 /// right-aligned column with a decimal mark, spaces after shorter fractions put the marks below
 /// each other, unless `--no-decimal` is given. These spaces may be left out if a width is set. The
 /// fields of expanded records are left-aligned.

@@ -318,7 +318,7 @@ is_missing text =
     ∷ codes "#n/a" ∷ (0x5C ∷ codes "n") ∷ codes "(null)" ∷ codes "<null>" ∷ []
     )
 
--- a hyphen, two points, U+2013 or U+2014
+-- `-`, `..`, `–` or `—`
 abbrev pub dashes : List Text
 dashes =
     codes "-" ∷ codes ".." ∷ encode_utf8_all (0x2013 ∷ []) ∷ encode_utf8_all (0x2014 ∷ []) ∷ []

@@ -517,9 +517,9 @@ pub(crate) fn is_digits(bytes: &[u8]) -> bool
 }
 
 /// Returns true if a field is *neutral*, which means that it has no value and doesn't change how
-/// its column is aligned. A neutral field is empty, a dash, two points, or a word such as `n/a`,
-/// `null` or `nan`. The word may be in capitals and follow a sign. Spaces, TABs and line breaks
-/// around the field don't count.
+/// its column is aligned. A neutral field is empty, or is `-`, `–`, `—` or `..`, or is a word such
+/// as `n/a`, `null` or `nan`. The word may be in capitals and follow a sign. Spaces, TABs and line
+/// breaks around the field don't count.
 pub fn is_neutral(field: &str) -> bool
     ensures { result ≡ is_neutral field.now }
 {
@@ -532,7 +532,7 @@ pub(crate) fn is_bare_neutral(text: &str) -> bool
     text.is_empty() || is_dash(text) || is_missing(without_sign(text))
 }
 
-// True for a dash, and for two points.
+// True for `-`, `–`, `—` and `..`.
 fn is_dash(text: &str) -> bool
     ensures { result ≡ is_dash text.now }
 {

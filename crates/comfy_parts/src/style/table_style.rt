@@ -394,8 +394,8 @@ impl TableStyle {
         }
     }
 
-    /// Makes the lines between columns and between rows solid. A style without lines between rows
-    /// gets such lines.
+    /// Sets solid lines, of box drawing characters, between columns and between rows. They replace
+    /// the style's own lines there. A style without lines between columns or between rows gets them.
     ///
     /// ```text
     /// ┌───────┬───────┐

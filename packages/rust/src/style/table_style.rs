@@ -254,8 +254,8 @@ impl TableStyle {
         self
     }
 
-    /// Returns this style with solid lines between columns and between rows, in place of dashed lines. The lines consist of box
-    /// drawing characters.
+    /// Returns this style with solid lines, of box drawing characters, between columns and between rows. They replace the style's
+    /// own lines there. A style without lines between columns or between rows gets them.
     ///
     /// ```
     /// use comfy_table_proved::{Table, presets::UTF8_FULL};

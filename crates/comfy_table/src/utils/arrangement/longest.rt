@@ -31,10 +31,11 @@ pub fn longest_line(table: &Table, position: usize, content_width: u16) -> Resul
     }
 }
 
-/// The width of the widest line in the column at position `position`, in terminal columns. Each
-/// cell is wrapped with the delimiter and the content width of `info`. The function stops at the
-/// first cell with a line wider than `limit`, so a result above `limit` may be less than the width
-/// of the widest line. The result is 0 if the column has no cells.
+/// The width of the widest line in the column at position `position`, in terminal columns, if its
+/// cells and its header are wrapped for the content width of `info`. The delimiter of a cell is its
+/// own, or else that of `info`, or else that of the table. Greatest heights of rows aren't applied.
+/// The function stops at the first cell with a line wider than `limit`, so a result above `limit`
+/// may be less than the width of the widest line. The result is 0 if the column has no cells.
 pub fn column_longest_line(
     table: &Table,
     position: usize,
