@@ -395,7 +395,8 @@ impl TableStyle {
     }
 
     /// Sets solid lines, of box drawing characters, between columns and between rows. They replace
-    /// the style's own lines there. A style without lines between columns or between rows gets them.
+    /// the style's own lines there. A style without lines between columns or between rows gets
+    /// them.
     ///
     /// ```text
     /// ┌───────┬───────┐

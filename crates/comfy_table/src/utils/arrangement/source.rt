@@ -29,8 +29,8 @@ pub trait TableSource: Drop {
         ensures { IfOk result (λ width. width ≡ column_content_width (whole self.now) position) };
 
     /// The width of the widest line in the column at position `position`, in terminal columns, if
-    /// its cells and its header are wrapped for the content width of `info`. The delimiter of a cell
-    /// is its own, or else that of `info`, or else that of the table. Greatest heights of rows
+    /// its cells and its header are wrapped for the content width of `info`. The delimiter of a
+    /// cell is its own, or else that of `info`, or else that of the table. Greatest heights of rows
     /// aren't applied. If this width is above `limit`, the result may be less than this width, but
     /// is above `limit` too. The only error is `OutOfMemory`.
     fn longest_line(&self, position: usize, info: &ColumnDisplayInfo, limit: usize) -> Result<usize>
