@@ -50,6 +50,12 @@ COUNTS = "no one two three four five six seven eight nine ten eleven twelve".spl
 CALLERS = ["test_callers", "csv_promises"]
 PAGE_WITH = {"comfy_run": ["devices"], "csv_tables": ["csv_records", "csv_command"]}  # further crates on a CALLING.md
 STORED = ["csvtable/stdout"]
+# The programs whose lines README.md shows, by the languages of its code blocks.
+README_CODE = {
+    "rust": "crates/example_first/src/main.rt",
+    "python": "packages/python/examples/boats.py",
+    "c": "packages/c/examples/rows.c",
+}
 LINKED = ["README.md", "CHANGELOG.md", "CONTRIBUTING.md", "SECURITY.md", "docs/*.md", "crates/*/CALLING.md", "crates/case_files/FORMAT.md", "packages/*/README.md"]
 # The places that have the version. The newest heading of CHANGELOG.md has it too.
 VERSIONS = {
@@ -239,7 +245,7 @@ def main():
     for crate in os.listdir(f"{TOP}/crates"):
         wrong += [f"{crate} has no function {it}, which a mutation names" for it in mutated_in(crate) - set(functions_of(crate))]
     wrong += [f"README.md doesn't print crates/{path}" for path in STORED if text_of(f"crates/{path}") not in readme]
-    for language, path in (("rust", "crates/example_first/src/main.rt"), ("python", "packages/python/examples/boats.py")):
+    for language, path in README_CODE.items():
         code = re.search(rf"^```{language}\n(.*?)^```", readme, re.M | re.S)[1]
         wrong += [f"{path} doesn't have this line of README.md: {line}" for line in code.splitlines() if line not in text_of(path)]
     for path in glob.glob("crates/*/CALLING.md", root_dir=TOP):
