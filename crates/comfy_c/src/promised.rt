@@ -15,12 +15,13 @@ use crate::rows_settings::RowsSettings;
 use promises::laws::drawings_keep_the_promises;
 use std::alloc::Global;
 
-/// Draws a table of cells, as `comfy_cells_draw` does. If 0 is returned and `form` isn't 2, the
-/// first `needed` bytes of `output` are UTF-8. They are the lines of the table that the caller's
-/// numbers and texts describe. If `form` is 0, each line has a line feed after it. If `form` is 1,
-/// the lines have no white space at their ends, and line feeds are only between lines.
+/// Draws a table of cells, as `comfy_cells_draw` does. If 0 is returned and `settings.form` isn't
+/// 2, which requests widths of columns, the first `needed` bytes of `output` are UTF-8. They are
+/// the lines of the table that the caller's numbers and texts describe. If `settings.form` is 0,
+/// each line has a line feed after it. If it is 1, the lines have no white space at their ends, and
+/// line feeds are only between lines.
 ///
-/// The lines keep each promise of the crate `promises` on the lines of a table. If `form` is 1,
+/// The lines keep each promise of the crate `promises` on the lines of a table. If the form is 1,
 /// this holds for the lines before the white space at their ends is removed. For example, take a
 /// table with `Dynamic`, a width, and no constraint except `Hidden`. Its frame lines have at most
 /// as many characters as the greater of two numbers. One is the width. The other is the number of

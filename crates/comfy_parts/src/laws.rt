@@ -22,18 +22,22 @@ pub fn wrapped_lines_are_one_list()
 
 /// A wrapped line of any text ends by the following rule. An element is a part of the text between
 /// delimiters, and `w` is the width of a line. The head of an element for k terminal columns is its
-/// longest prefix of whole grapheme clusters whose widths add up to at most k. If the first element
-/// from the line's start is wider than `w`, the line is the head of that element for `w` columns.
-/// If that head is empty, the line is the element's first character. Otherwise the line ends after
-/// the first element for which one of these conditions holds:
+/// longest prefix of whole grapheme clusters whose widths add up to at most k.
+///
+/// If the line's first element is wider than `w`, the line is the head of this element for `w`
+/// terminal columns, or the element's first character if that head is empty.
+///
+/// If the line's first element isn't wider than `w`, the line takes whole elements, with the
+/// delimiters between them. It takes them up to the first element after which one of these
+/// conditions holds:
 ///
 /// - more than `w - 2` terminal columns are filled
 /// - no element is left
 /// - the next element has no room after one terminal column for the delimiter
 ///
-/// After this element the line takes more, if the next element is wider than `w` and at least four
-/// terminal columns are free. It takes the delimiter, and the head of the next element for all free
-/// columns except one.
+/// The line ends there, with one exception: the next element is wider than `w`, and at least four
+/// terminal columns are free. Then the line also takes the delimiter, and the head of the next
+/// element for all free columns except one.
 pub fn lines_end_at_the_first_full_element()
     ensures fitting { (w d : ℕ) (text : Text) → FittingLinesEndAtFirst w d text }
     ensures wide { (w d : ℕ) (text : Text) → WideElementsAreCut w d text }
@@ -121,13 +125,14 @@ pub fn preset_characters_take_one_column()
     ensures { All IsOneColumnPreset presets_all }
 {}
 
-/// A line into which a text line is wrapped isn't wider than the width, if the text line fits the
-/// width.
+/// Let a text line be wrapped at the width `w`. No line is wider than `w` under any of these
+/// conditions. An element is a part of the text line between delimiters.
 ///
-/// A text line fits if it isn't wider than the width. It also fits if each of its words fits, and
-/// the delimiter adds one terminal column between any texts (`adds_one_column`). A word fits if it
-/// isn't wider than the width, or if `characters_fit` is true for it. So a text line also fits if
-/// `characters_fit` is true for it, and the delimiter adds one terminal column.
+/// - The text line isn't wider than `w`.
+/// - The delimiter adds one terminal column between any texts (`adds_one_column`). Each element
+///   takes at most `w` terminal columns, or `characters_fit` is true for it.
+/// - The delimiter adds one terminal column between any texts, and `characters_fit` is true for the
+///   text line.
 ///
 /// The head for k terminal columns, as `split_long_word` returns it, measures at most k, if U+FE01
 /// is never directly next to U+FE0E or U+FE0F in the text.

@@ -146,9 +146,9 @@ pub fn dynamic_widths_are_one_list()
 /// than one terminal column for each shown column, all widths are 1. Otherwise there is a number of
 /// terminal columns, the *level*, which is at least an even share of the room. Under `Dynamic`, a
 /// column whose content is at most the level is as wide as its content, but at least 1. Any other
-/// column is at least as wide as the level, or as wide as its longest wrapped line. This is the
-/// longest line if the cells are wrapped at some width of at least the level. Under
-/// `DynamicFullWidth` the room that is left is then added evenly to these widths.
+/// column is at least as wide as the level, or as wide as the longest of the lines into which its
+/// cells are wrapped at some width of at least the level. Under `DynamicFullWidth` the room that is
+/// left is then added evenly to these widths.
 pub fn dynamic_widths_are_levelled()
     ensures dynamic { (table : TableValue) (w : ℕ) (widths : List ℕ)
         → TableIsLevelled table w widths }

@@ -99,9 +99,9 @@ pub fn text_of_records(
     Ok(joined(alloc, drawn)?)
 }
 
-/// Draws all records of an input as `drawn_records` does, but returns one text. The number of
-/// records below the header is that in `records`. The text is empty if `records` is empty. The only
-/// error is `OutOfMemory`.
+/// Draws `records` as `drawn_records` does, but returns one text. `records` has to be all records
+/// of the input: its number of records, less 1 for a header, is the `count` that `drawn_records`
+/// takes. The text is empty if `records` is empty. The only error is `OutOfMemory`.
 pub fn output_of_records(alloc: Global, records: Records, layout: &Layout) -> Result<String>
     ensures { IfOk result (λ output.
         RendersAnyRecords layout.now records (string_bytes output)) }
@@ -109,9 +109,10 @@ pub fn output_of_records(alloc: Global, records: Records, layout: &Layout) -> Re
     output_of_styled_records(alloc, records, layout, Settings::none(alloc))
 }
 
-/// Draws all records of an input as `drawn_styled_records` does, but returns one text. The number
-/// of records below the header is that in `records`. The text is empty if `records` is empty. The
-/// only error is `OutOfMemory`.
+/// Draws `records` as `drawn_styled_records` does, but returns one text. `records` has to be all
+/// records of the input: its number of records, less 1 for a header, is the `count` that
+/// `drawn_styled_records` takes. The text is empty if `records` is empty. The only error is
+/// `OutOfMemory`.
 pub fn output_of_styled_records(
     alloc: Global,
     records: Records,

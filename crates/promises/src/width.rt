@@ -9,8 +9,8 @@ use comfy_table::{ArrangedTable, ContentArrangement, Lines, Result, Table};
 /// `OutOfMemory`, after which the width and the arrangement are set too.
 ///
 /// No line takes more terminal columns than the greater of two numbers: `width`, and 1 + s. Here s
-/// is the sum, over all shown columns, of both paddings plus 2. This bound holds under these
-/// conditions:
+/// is the sum of left padding + right padding + 2 over all shown columns. The 2 is one border and
+/// one terminal column for texts. This bound holds under these conditions:
 ///
 /// - Each character of each text takes at most one terminal column, as `characters_fit(line, 1)`
 ///   tests.
@@ -30,8 +30,7 @@ pub fn lines_within(table: &mut Table, width: u16) -> Result<Lines>
 /// is `OutOfMemory`, after which the width and the arrangement are set too.
 ///
 /// Each line takes exactly `width` terminal columns, under the conditions of `lines_within` and one
-/// more: `width` is at least 1 + s. Here s is the sum, over all shown columns, of both paddings
-/// plus 2.
+/// more: `width` is at least 1 + s, for the sum s of `lines_within`.
 pub fn lines_over(table: &mut Table, width: u16) -> Result<Lines>
     ensures { IfOk result (λ lines. FillWidth table.old width lines) }
 {
@@ -45,8 +44,8 @@ pub fn lines_over(table: &mut Table, width: u16) -> Result<Lines>
 /// columns. The only error is `OutOfMemory`.
 ///
 /// No line takes more terminal columns than the greater of two numbers: the width that `set_width`
-/// has set, and 1 + s. Here s is the sum, over all shown columns, of both paddings plus 2. This
-/// bound holds for texts of every script under these conditions:
+/// has set, and 1 + s. Here s is the sum of left padding + right padding + 2 over all shown
+/// columns. This bound holds for texts of every script under these conditions:
 ///
 /// - A width is set, and the arrangement is `Dynamic`. This function sets neither.
 /// - A column is shown, and no shown column has a constraint.

@@ -12,9 +12,10 @@ use crate::style::TableStyle;
 /// one of these characters makes the character wide. The result is false for every other character,
 /// even if that character adds one terminal column too.
 ///
-/// All lines of a table are equally wide (`IsStraightTable`) under conditions on characters and
-/// texts. A true result for each character of the style, for each delimiter and for the first
-/// character of the truncation indicator meets those on characters.
+/// All lines of a table are equally wide (`IsStraightTable`) under some conditions on its
+/// characters and on its texts. The conditions on characters hold if the result is true for each
+/// character of the style, for each delimiter, and for the first character of the truncation
+/// indicator.
 #[tactic(auto, using(crate::proofs::FrameCharacterLemmas::frame_adds))]
 pub fn adds_one_column(character: char) -> bool
     ensures test { result ≡ is_frame_character character }
