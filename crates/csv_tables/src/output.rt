@@ -34,9 +34,12 @@ use std::fmt::Write;
 
 /// Draws `records` as `layout` describes. The result returns the text of the drawing piece by
 /// piece. `count` is the number of records below the header, or `None` if this number isn't known.
-/// If `layout` has a limit below `count`, a last line such as `2 of 3 records` comes after the
-/// table. If it has a limit and `count` is `None`, this line says that there are more records. The
-/// only error is `OutOfMemory`.
+/// The only error is `OutOfMemory`.
+///
+/// If `layout` has a limit, pass `None` only if there are more records than the limit, because this
+/// isn't checked. With a limit below `count`, the drawing ends with a line such as `2 of 3
+/// records`. With a limit and `None`, it ends with a line such as `first 2 records; there are
+/// more`. The line above an expanded record is `record 1 of 3`, or `record 1` with `None`.
 pub fn drawn_records(
     alloc: Global,
     records: Records,

@@ -95,7 +95,8 @@ struct Settings {
 }
 
 impl Rows {
-    /// Makes a table with a header and without rows. Each value of `header` is the name of a column.
+    /// Makes a table with a header and without rows. Each value of `header` is the name of a column. A header without values gets
+    /// one empty name. For a table without a header, call [`Rows::without_header`].
     ///
     /// ```
     /// use comfy_table_proved::csvtable::Rows;
