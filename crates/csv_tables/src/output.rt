@@ -37,9 +37,10 @@ use std::fmt::Write;
 /// The only error is `OutOfMemory`.
 ///
 /// If `layout` has a limit, pass `None` only if there are more records than the limit, because this
-/// isn't checked. With a limit below `count`, the drawing ends with a line such as `2 of 3
-/// records`. With a limit and `None`, it ends with a line such as `first 2 records; there are
-/// more`. The line above an expanded record is `record 1 of 3`, or `record 1` with `None`.
+/// isn't checked. With a limit below `count`, the last line of the drawing is, for example,
+/// `2 of 3 records`. With a limit and `None`, the last line is, for example,
+/// `first 2 records; there are more`. The line above an expanded record is `record 1 of 3`, or
+/// `record 1` with `None`.
 pub fn drawn_records(
     alloc: Global,
     records: Records,
