@@ -123,10 +123,12 @@ pub fn widths_keep_to_the_width()
 
 /// This law is `widths_keep_to_the_width` for columns with any constraints. Let W be the table's
 /// width. Let T be the terminal columns of borders and paddings, plus a number for each shown
-/// column. If a column's constraint fixes its width, or its lower boundary decides its width, the
-/// number is this width without paddings. For any other column the number is 1. Under `Dynamic` the
-/// borders and the widths of the shown columns, with paddings, are together at most max(W, T).
-/// Under `DynamicFullWidth` this sum is exactly max(W, T), if a column is shown.
+/// column. If a column's constraint fixes its width, the number is this width without paddings. If
+/// a column's lower boundary decides its width, the number is the boundary without paddings. For
+/// any other column the number is 1. A lower boundary decides a width if it is greater than the
+/// average width that is left for the columns without a decided width when its column is tried.
+/// Under `Dynamic` the borders and the widths of the shown columns, with paddings, are together at
+/// most max(W, T). Under `DynamicFullWidth` this sum is exactly max(W, T), if a column is shown.
 pub fn widths_keep_to_the_wider_total()
     ensures dynamic { (table : TableValue) (w : ℕ) (widths : List ℕ)
         → KeepsToWiderTotal table w widths }
@@ -144,11 +146,12 @@ pub fn dynamic_widths_are_one_list()
 
 /// Let no shown column have a constraint, and let at least one column be shown. If the room is less
 /// than one terminal column for each shown column, all widths are 1. Otherwise there is a number of
-/// terminal columns, the *level*, which is at least an even share of the room. Under `Dynamic`, a
-/// column whose content is at most the level is as wide as its content, but at least 1. Any other
-/// column is at least as wide as the level, or as wide as the longest of the lines into which its
-/// cells are wrapped at some width of at least the level. Under `DynamicFullWidth` the room that is
-/// left is then added evenly to these widths.
+/// terminal columns, the *level*. It is at least the room divided by the number of shown columns,
+/// rounded down. Under `Dynamic`, a column whose content is at most the level is as wide as its
+/// content, but at least 1. Any other column is at least as wide as the level, or it is *shrunk*:
+/// it may then be narrower than the level. A shrunk column is as wide as the longest of the lines
+/// into which its cells are wrapped at some width of at least the level, but at least 1. Under
+/// `DynamicFullWidth` the room that is left is then added evenly to these widths.
 pub fn dynamic_widths_are_levelled()
     ensures dynamic { (table : TableValue) (w : ℕ) (widths : List ℕ)
         → TableIsLevelled table w widths }

@@ -126,10 +126,10 @@ impl Model for Columns {
 
 impl Columns {
     /// Selects the columns to draw, in the order of `drawn`, and sets which columns are
-    /// right-aligned and left-aligned. The lists have the columns' positions, counted from 0. A
-    /// position in both `right` and `left` is right-aligned. A column in neither of these two lists
-    /// is right-aligned if its fields are numbers. The lists may have positions at which no record
-    /// has a field.
+    /// right-aligned and left-aligned. The lists have the columns' positions, counted from 0. If
+    /// `drawn` is empty, no column is drawn. A position in both `right` and `left` is
+    /// right-aligned. A column in neither of these two lists is right-aligned if its fields are
+    /// numbers. A position in `drawn` at which no record has a field is a column too.
     pub fn new(drawn: Vec<usize>, right: Vec<usize>, left: Vec<usize>) -> Columns
         ensures { result
             ≡ record { drawn = drawn.items; right = right.items; left = left.items } }

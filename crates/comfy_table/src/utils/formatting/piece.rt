@@ -139,9 +139,11 @@ impl<'a> Piece<'a> {
         Piece::bare(info.width(), "", 0)
     }
 
-    /// Appends `free` spaces, the border of `gap`, and the piece without its trailing spaces to
-    /// `line`. Returns the number of these trailing spaces, which is the `free` of the next call.
-    /// The only error is `OutOfMemory`; `line` may then have a part of these texts.
+    /// Appends `free` spaces, the border of `gap`, and the piece to `line`, but leaves out the
+    /// spaces after the piece's text. Returns the number of spaces that are left out: pass it as
+    /// `free` to the next call, which appends them. Spaces that belong to the text, and spaces in
+    /// colours and attributes, aren't left out. The only error is `OutOfMemory`; `line` may then
+    /// have a part of these texts.
     #[inline(always)]
     pub fn push(&self, line: &mut String, gap: &Gap, free: usize) -> Result<usize>
         ensures { IfOk result (λ right. string_bytes line.new ++ spaces right
