@@ -383,8 +383,9 @@ pub struct FirstRecords {
     pub records: Records,
     /// The number of all records in the text, including those that aren't in `records`.
     pub count: usize,
-    /// A report on those of `records` that have more fields than the first record. `None` if no
-    /// record has more fields, or for `Delimiter::Spaces`.
+    /// A report on those of `records` that have more fields than the first record. Empty fields at
+    /// the end of a record don't count. `None` if `records` has no such record, even if later
+    /// records of the text have more fields, and always for `Delimiter::Spaces`.
     pub longer: Option<LongRecords>,
 }
 

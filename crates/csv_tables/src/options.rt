@@ -4,7 +4,8 @@ use crate::selection::{Columns, Selection};
 use comfy_parts::style::{CellAlignment, TableStyle};
 use csv_records::Points;
 
-/// The records and columns that are drawn, and the look of the drawing.
+/// The choice of the records and columns that are drawn, and the look of the drawing. The records
+/// themselves aren't part of a `Layout`.
 #[derive(Debug)]
 pub struct Layout {
     /// The selection of the header and of the records that are drawn.
