@@ -15,10 +15,10 @@ pub struct InputOptions {
     pub skip: usize,
     /// The byte or the white space that separates fields, or the rule that finds the byte.
     pub delimiter: Delimiter,
-    /// True if the first line that isn't blank, after the lines that `skip` leaves out, is a header.
-    /// `has_header` has an effect only for `Delimiter::Spaces`. The header then helps to find the
-    /// number of columns. Without a header, a first line like `total 92`, which `ls -l` writes, is
-    /// left out.
+    /// True if the first line that isn't blank, after the lines that `skip` leaves out, is a
+    /// header. `has_header` has an effect only for `Delimiter::Spaces`. The header then helps to
+    /// find the number of columns. Without a header, a first line like `total 92`, which `ls -l`
+    /// writes, is left out.
     pub has_header: bool,
     /// True if double quotes may enclose a field, and aren't part of it. A quote that opens a field
     /// and is never closed is then an error. If `has_quotes` is false, or for `Delimiter::Spaces`,
